@@ -18,7 +18,7 @@ from unused_imports import all_unused
 LONGEST = 40
 LONG = {
     ("bukzarn", "bukzarn_run_frames"): (44, "the arguments of its three calls, a line each"),
-    ("engine_frames", "run_each"): (43, "ten lent slices and numbers, a line each, as parameters and again in the call"),
+    ("engine_frames", "run_each"): (41, "ten lent slices and numbers, a line each, as parameters and again in the call"),
     ("check_dispatch", "check_rule"): (42, "an arm for each kind"),
     ("check_layout", "enter"): (55, "twelve parameters, a line each; refusals 3 to 8 in their order, and a way out for each"),
     ("check_layout", "scan_with"): (53, "the loop over the records, which keeps the walk and the eight tables"),
@@ -26,6 +26,7 @@ LONG = {
     ("check_typing", "check_subterms"): (52, "nine arguments of two calls, a line each"),
     ("need_rows", "add_pieces"): (44, "a recursion over the children, whose visit has six parts"),
     ("need_walk", "walk"): (45, "a recursion over the children: the sum, the dearer branch, the place of each child"),
+    ("vm_execute", "performed"): (42, "an arm for each act"),
     ("vm_dispatch", "first_of"): (147, "an arm for each class, so that one jump leads to what is to be done"),
     ("vm_dispatch", "other_first"): (150, "the same; apart, since the compiler takes an arm among more than 50 for a rare one"),
     ("vm_pass_up", "word_of"): (78, "an arm for each kind, whose name stands in it"),

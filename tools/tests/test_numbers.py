@@ -103,7 +103,6 @@ OTHER_CONSTANTS = {
     "read_records/kinds.rt": {"UNIT_TYPE"},
     "read_records/table.rt": {"CHILDREN", "GROUP", "LEAD", "LAST", "LEAST"},
     "report/fixed.rt": {"LOG"},
-    "vm_decode/acts.rt": {"NEXT"},
     "vm_memory/slots.rt": {"BYTES", "DIGITS", "NEXT"},
     "vm_words/code.rt": {"CLASSES", "COUNTS"},
     "vm_words/value.rt": {"TAGS"},

@@ -19,6 +19,8 @@ use read_terms::types::{
 };
 use verdict::Verdict;
 
+// Kept: (d) one function for the rules of sequence and split, or of print and byte, would take the kinds that they differ in, and
+// its contract would name both rules beside those kinds; each rule of the calculus has a function here.
 // Sequence: the first is unit, the second gives the type.
 pub fn check_sequence(
     image: &[u8],

@@ -1,12 +1,11 @@
 -- The marks of a layout with one term more, and what becomes of a term.
 use Prim.Native.Nat.{ℕ, suc, ◌+◌, ◌<◌}
 use native.Mathlib.Omega.{arith}
-use mathlib.Core.Path.{◌≡◌, refl, sym, ap, subst, ◌∙◌}
+use mathlib.Core.Path.{◌≡◌, sym, ap, subst, ◌∙◌}
 use mathlib.Core.List.{List, [], ◌∷◌}
 use mathlib.Core.Option.{none}
 use lib.ListN.{length, get_or, set, length-append, get_or-append}
 use lib.Seq.{get_or-append-add}
-use Rattle.image.specs.declared.Refusal.{Refusal}
 use Rattle.image.specs.Limits.{term_limit}
 use Rattle.laws.specs.Tests.{first_fault}
 use Rattle.laws.proofs.Tests.{passed}
@@ -62,14 +61,6 @@ module _ (L : Layout) (o : ℕ) (k : TermKind) (e : kind_at L.image o ≡ term k
 module _ (fs : List ℕ) (x : ℕ) (n : Counts) (r : Tested) (a : told_of r ≡ first_fault (number_tests fs x n)) where
   abbrev behind_it : List ℕ → List ℕ
   behind_it ms = marks_behind r (children_of x fs) n.terms ms
-
-  pub term_refused : {f : Refusal} → r ≡ Tested.Fault f → (o : ℕ) (es : List ℕ) {ms ms' : List ℕ} → ms' ≡ behind_it ms → EntersTerm (Entry.Fault f) fs x o n es ms es ms'
-  term_refused e o es {ms} b =
-      record {
-        answer = ap (λ y. entry_for (told_of y) (with_term n)) (sym e) ∙ ap (λ y. entry_for y (with_term n)) a;
-        terms = refl;
-        marks = b ∙ ap (λ y. marks_behind y (children_of x fs) n.terms ms) e;
-      }
 
   module _ (e : r ≡ Tested.Passed) where
     passes : none ≡ first_fault (number_tests fs x n)

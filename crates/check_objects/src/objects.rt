@@ -70,13 +70,9 @@ fn object_fits(
     ensures { (p : Setting ℕ) → result ≡ (rule_in image.now fields.now TermKind.obj p).typed }
 {
     let t = own_type(fields);
-    if !is_kind(own_descriptor(descriptors, fields), OBJECT_TYPE) {
-        return false;
-    }
-    if bodies_in(fields) != method_count(image, types, t) {
-        return false;
-    }
-    bodies_fit(image, types, terms, fields, t)
+    is_kind(own_descriptor(descriptors, fields), OBJECT_TYPE)
+        && bodies_in(fields) == method_count(image, types, t)
+        && bodies_fit(image, types, terms, fields, t)
 }
 
 // An object, with bodies at any domains.
@@ -118,13 +114,9 @@ fn call_fits(
     requires { Types image.now descriptors.now × TypeOffsets image.now types.now × IsType image.now a.0 }
     ensures { result ≡ call_fits (records_of image.now) a.0 m t.0 }
 {
-    if !is_kind(type_descriptor(descriptors, a), OBJECT_TYPE) {
-        return false;
-    }
-    if method_count(image, types, a) <= m {
-        return false;
-    }
-    same_type(method_type(image, types, a, m), t)
+    is_kind(type_descriptor(descriptors, a), OBJECT_TYPE)
+        && m < method_count(image, types, a)
+        && same_type(method_type(image, types, a, m), t)
 }
 
 // A call of a method that runs at the current domain; the method's number stands behind the object.

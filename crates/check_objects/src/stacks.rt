@@ -61,11 +61,11 @@ fn entry_fits(image: &[u8], terms: &[u16], descriptors: &[u32], entry: u16) -> b
     requires { Lent image.now terms.now descriptors.now × (entry ≤ length (records_of image.now).terms) }
     ensures { result ≡ all_of (cut_of (records_of image.now) descriptors.now) (as_child an_entry entry) }
 {
-    if entry == 0 {
-        return true;
-    }
-    let pointcut = stated_type(image, terms, entry_term(entry));
-    is_kind(type_descriptor(descriptors, pointcut), POINTCUT_TYPE)
+    entry == 0
+        || is_kind(
+            type_descriptor(descriptors, stated_type(image, terms, entry_term(entry))),
+            POINTCUT_TYPE,
+        )
 }
 
 // Each entry is 0 or names a pointcut.

@@ -2,9 +2,8 @@
 use Prim.Native.Nat.{ℕ, zero, suc, ◌≤◌}
 use native.Mathlib.Omega.{arith}
 use mathlib.Core.Path.{◌≡◌, refl, ap, ◌∙◌}
-use mathlib.Core.List.{List, ◌∷◌, ◌++◌}
-use lib.ListN.{length, take, drop, set, replicate, length-take, length-set, length-replicate}
-use lib.Seq.{length_front}
+use mathlib.Core.List.{List, ◌∷◌}
+use lib.ListN.{length, take, set, replicate, length-take, length-set, length-replicate}
 
 pub zeros_length : (m : ℕ) (xs : List ℕ) → xs ≡ replicate m 0 → length xs ≡ m
 zeros_length m xs e = ap length e ∙ length-replicate {A = ℕ} m 0
@@ -18,6 +17,3 @@ zeros_front (suc n) (suc m) h = ap (λ xs. 0 ∷ xs) (zeros_front n m (omega ari
 module _ (m : ℕ) (xs : List ℕ) (zeros : xs ≡ replicate m 0) (n i v : ℕ) where
   pub front_length : n ≤ m → length (take n (set xs i v)) ≡ n
   front_length h = let z = zeros_length m xs zeros in simp (length-take, length-set) (omega arith)
-
-  pub whole_length : (ys : List ℕ) → length ys ≡ length (take n (set xs i v)) → length (ys ++ drop n (set xs i v)) ≡ length xs
-  whole_length ys h = length_front (set xs i v) ys n h ∙ length-set xs i v

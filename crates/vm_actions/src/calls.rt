@@ -20,7 +20,7 @@ use vm_words::value::object_term;
 // The method in field b of the object x.
 fn reduce_call(code: &[u64], image: &[u8], work: &mut [u8], r: Regs, w: u64, x: u64) -> Regs
     requires { (term_count ≤ length code.now) × (memory_length ≤ length work.old) × (depth_of w ≤ r.frames) × ((size : ℕ) × Fits size r) }
-    ensures { Phase (reduce_call (record { code = code.entry.now; image = image.now }) w x) work.old work.new r result }
+    ensures { Phase (reduce_call (record { code = code.now; image = image.now }) w x) work.old work.new r result }
 {
     let t: TermNo = object_term(x);
     let u = word_of(code, t);
@@ -30,7 +30,7 @@ fn reduce_call(code: &[u64], image: &[u8], work: &mut [u8], r: Regs, w: u64, x: 
 
 pub fn call(code: &[u64], image: &[u8], work: &mut [u8], r: Regs, w: u64, x: u64) -> Regs
     requires { (term_count ≤ length code.now) × (memory_length ≤ length work.old) × ((size : ℕ) × Fits size r) }
-    ensures { Phase (λ S. judged w S (reduce_call (record { code = code.entry.now; image = image.now }) w x S)) work.old work.new r result }
+    ensures { Phase (λ S. judged w S (reduce_call (record { code = code.now; image = image.now }) w x S)) work.old work.new r result }
 {
     if r.frames <= depth_of(w) {
         return halt(r, FRAMES);

@@ -16,7 +16,7 @@ use vm_words::terms::instruction;
 // A call or split has its value: f is the word of its slot.
 pub fn returned(code: &[u64], work: &mut [u8], r: Regs, f: u64) -> Regs
     requires { (term_count ≤ length code.now) × (memory_length ≤ length work.old) × (r.frames ≤ frame_slots) }
-    ensures { (image : List ℕ) → Phase (machine.returned (record { code = code.entry.now; image = image }) f) work.old work.new r result }
+    ensures { (image : List ℕ) → Phase (machine.returned (record { code = code.now; image = image }) f) work.old work.new r result }
 {
     let pc = slot_pc(f);
     let w = instruction(code, pc);

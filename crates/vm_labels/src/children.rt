@@ -39,23 +39,17 @@ pub fn take_labels(code: &[u64], fields: &[u8], work: &[u8], env: usize, w: u64,
     requires { (term_count ≤ length code.now) × (memory_length ≤ length work.now) × (env < binding_places) }
     ensures { (image : List ℕ) → fields.now ≡ child_fields image w → record { count = result.count; digits = result.digits } ≡ take_labels (record { code = code.entry.now; image = image }) (memory_of work.now) env w (count_of w - from.count) from.count from.digits }
 {
-    let n = count_of(w);
-    let mut i = from.count;
-    let mut d = from.digits;
-    while i < n {
+    let mut done = from;
+    for i in from.count..count_of(w) {
         let u = word_of(code, term_at(fields, i));
         if INSTRUCTION <= class_of(u) {
-            return Done {
-                count: i,
-                digits: d,
-            };
+            return done;
         }
         let v = atom_value(work, env, u);
-        d = with_digit(d, body(v) % LABELS);
-        i += 1;
+        done = Done {
+            count: i + 1,
+            digits: with_digit(done.digits, body(v) % LABELS),
+        };
     }
-    Done {
-        count: i,
-        digits: d,
-    }
+    done
 }

@@ -14,7 +14,8 @@ use Rattle.vm_machine.specs.Registers.{frame_slots, halt}
 use Rattle.vm_machine.specs.Memory.{slot_at, slot_kind, call_frame, advice_frame, pointcut_frame, keep_frame}
 use Rattle.vm_machine.specs.States.{State, with_regs}
 use Rattle.vm_machine.specs.Fetch.{Program, code_at}
-use Rattle.vm_machine.specs.Moves.{done_act, return_act, next_act, resume_act, leave_act, move_to, return_move, move_of}
+use Rattle.vm_machine.specs.declared.Act.{Act}
+use Rattle.vm_machine.specs.Moves.{move_to, return_move, move_of}
 use Rattle.vm_machine.specs.Reduce.{next_advice}
 use Rattle.vm_machine.specs.Stacks.{leave_keep}
 use Rattle.vm_machine.specs.Turn.{resumed, returned, performed, turn}
@@ -32,7 +33,7 @@ module _ (C : Program) (frame : List ℕ) (S : State) (pc : S.regs.pc ≡ return
 
   pub caller_done : S.regs.frames ≡ frame_slots → turn C frame S ≡ with_regs (halt Outcome.Done S.regs) S
   unfolding performed
-  caller_done q = by_move (move_to done_act 0 0) (rw (eq-eqb S.regs.frames frame_slots q))
+  caller_done q = by_move (move_to Act.Done 0 0) (rw (eq-eqb S.regs.frames frame_slots q))
 
   module _ (f : ℕ) (is : slot_at S.memory S.regs.frames 0 ≡ f) (inside : S.regs.frames < frame_slots) where
     no_top : eqb S.regs.frames frame_slots ≡ false
@@ -40,16 +41,16 @@ module _ (C : Program) (frame : List ℕ) (S : State) (pc : S.regs.pc ≡ return
 
     pub caller_call : slot_kind f ≡ call_frame → turn C frame S ≡ returned C f S
     unfolding performed
-    caller_call q = by_move (move_to return_act f 0) (rw (no_top, is, q))
+    caller_call q = by_move (move_to Act.Return f 0) (rw (no_top, is, q))
 
     pub caller_advice : slot_kind f ≡ advice_frame → turn C frame S ≡ next_advice C f S
     unfolding performed
-    caller_advice q = by_move (move_to next_act f 0) (rw (no_top, is, q))
+    caller_advice q = by_move (move_to Act.Next f 0) (rw (no_top, is, q))
 
     pub caller_pointcut : slot_kind f ≡ pointcut_frame → turn C frame S ≡ resumed C f S
     unfolding performed
-    caller_pointcut q = by_move (move_to resume_act f 0) (rw (no_top, is, q))
+    caller_pointcut q = by_move (move_to Act.Resume f 0) (rw (no_top, is, q))
 
     pub caller_keep : slot_kind f ≡ keep_frame → turn C frame S ≡ leave_keep C f S
     unfolding performed
-    caller_keep q = by_move (move_to leave_act f 0) (rw (no_top, is, q))
+    caller_keep q = by_move (move_to Act.Leave f 0) (rw (no_top, is, q))

@@ -49,9 +49,7 @@ pub fn bind_matching(work: &mut [u8], n: usize, l: u64, v: u64, b: Pool) -> Pool
     ensures { Binds (bind_matching n l v (bound_in work.old b)) work.old work.new result × (whole b ≤ whole result) × (whole result < pool_bound) }
 {
     let mut q = b;
-    let mut i = n;
-    while 0 < i {
-        i -= 1;
+    for i in (0..n).rev() {
         q = bind_one(work, l, v, i, q);
     }
     q

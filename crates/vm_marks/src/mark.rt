@@ -15,7 +15,6 @@ ghost use Rattle.vm_registers.specs.Phases.{Phase};
 use crate::advice::start_advice;
 use crate::bind::bind_matching;
 use calculus::{BINDING_LIMIT, outcomes};
-use laws::both;
 use vm_machine::Regs;
 use vm_memory::labels::{LABELS, has_bit};
 use vm_pools::Pool;
@@ -33,7 +32,7 @@ fn label_of(v: u64) -> u64
 fn within_quotas(b: Pool) -> bool
     ensures { result ≡ within_quotas b }
 {
-    both(b.mainline <= BINDING_LIMIT, b.others <= BINDING_LIMIT)
+    b.mainline <= BINDING_LIMIT && b.others <= BINDING_LIMIT
 }
 
 // The outcome where they do not: "a mark that lacks both halves reports domain 0's".

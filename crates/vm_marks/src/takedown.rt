@@ -35,10 +35,8 @@ fn stay_others(work: &mut [u8], n: usize, d: DomainNo) -> usize
     ensures { Binds (stay_others n 0 d.0 (bound_in work.old 0)) work.old work.new result }
 {
     let mut m: usize = 0;
-    let mut i: usize = 0;
-    while i < n {
+    for i in 0..n {
         m = stay_one(work, d, i, m);
-        i += 1;
     }
     m
 }

@@ -1,6 +1,5 @@
 // The fields of a match with word w from its stack on: the stack, two branches, the entries and the close.
-ghost use Rattle.std.specs.Prelude.{◌≡◌, List, ℕ, ◌≤◌, ◌<◌, length, eqb};
-ghost use Rattle.calculus.specs.Combinators.{choose};
+ghost use Rattle.std.specs.Prelude.{◌≡◌, List, ℕ, ◌≤◌, ◌<◌, length};
 ghost use Rattle.vm_code.specs.Words.{term_count, count_of, count_size};
 ghost use Rattle.vm_machine.specs.Fetch.{Program};
 ghost use Rattle.vm_machine.specs.Stacks.{cut_term, binds_rest};
@@ -17,6 +16,7 @@ use vm_words::code::{class_of, count_of, offset_of};
 use vm_words::terms::{term_with, word_of};
 
 // The fields before the first entry: the stack and two branches.
+// Kept: places among the fields and not kinds: an enum would be turned back into a number where a field is read.
 pub const STACK: usize = 0;
 
 pub const FIRST_BRANCH: usize = 1;

@@ -8,6 +8,7 @@ pub mod matches;
 pub mod operands;
 
 // A match under way: its stack, how many entries were looked at, what is behind them in the stack, and whether they all fit.
+// Kept: `fits` is no flag for a value: the other fields hold values that are used whether it is true or not.
 #[derive(Clone, Copy)]
 pub struct Progress {
     pub stack: u64,

@@ -79,6 +79,8 @@ fn reduce_match(code: &[u64], fields: &[u8], work: &mut [u8], r: Regs, w: u64, k
     other_branch(code, fields, work, r, w)
 }
 
+// Kept: with `keep` (vm_stacks) this shares the test of the frames alone; if a function of both took what follows as a closure,
+// each would be as long as it is.
 pub fn make_match(
     code: &[u64],
     fields: &[u8],

@@ -15,6 +15,7 @@ use vm_words::code::{OPERANDS, in_field};
 use vm_words::value::ENVIRONMENTS;
 
 // The kinds of a frame: a call leaves one, a mark, a pointcut or match, and a keep (card 6).
+// Kept: a kind is the number that stands in a slot's two bits (`slot_kind`, which the machine's definition reads).
 pub const CALL_FRAME: u64 = 0;
 
 pub const ADVICE_FRAME: u64 = 1;

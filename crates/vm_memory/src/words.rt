@@ -39,6 +39,8 @@ pub const BESIDE: usize = 8 * (KEPT + KEPT_PLACES);
 // The low bits of a table's word are the table's own; the tag and body of a value stand above them, where they stand in the value.
 pub const ABOVE: u64 = vm_words::value::TAG;
 
+// Kept: the tables' own readers and writers are each one call of these two at the table's base; with the base as a const
+// parameter each caller would write out what the reader's name says.
 pub fn word(work: &[u8], i: usize) -> u64
     requires { (memory_length ≤ length work.now) × (i < word_count) }
     ensures { result ≡ word_at (memory_of work.now) i }

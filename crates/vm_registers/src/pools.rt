@@ -32,6 +32,7 @@ pub fn has_capacity(p: Pool, mainline: bool, n: usize, limit: usize) -> bool
 }
 
 // The outcomes of the half that lacks room.
+// Kept: each is one choice of two outcomes; one function for the three would be handed both at every call.
 pub fn bindings_out(mainline: bool) -> u32
     ensures { result ≡ outcome_number (bindings_out mainline) }
 {

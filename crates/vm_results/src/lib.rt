@@ -9,6 +9,7 @@ use calculus::LEAF_LIMIT;
 use report::Slot;
 
 // Leaves in eight slots; those that are left over hold unit.
+// Kept: no heap; and eight slots in an array are a form that the pages in docs/ name, from which the report is written.
 #[derive(Clone, Copy)]
 pub struct Gathered {
     pub count: usize,

@@ -69,6 +69,8 @@ fn start_keep(code: &[u64], work: &mut [u8], r: Regs, w: u64, x: u64, y: u64) ->
     begin_body(work, r, w, x, y, g % TERMS)
 }
 
+// Kept: with `make_match` (vm_matches) this shares the test of the frames alone; if a function of both took what follows as a
+// closure, each would be as long as it is.
 pub fn keep(code: &[u64], work: &mut [u8], r: Regs, w: u64, x: u64, y: u64) -> Regs
     requires { (term_count ≤ length code.now) × (memory_length ≤ length work.old) × ((size : ℕ) × Fits size r) }
     ensures { (image : List ℕ) → Phase (λ S. judged w S (start_keep (record { code = code.now; image = image }) w x y S)) work.old work.new r result }

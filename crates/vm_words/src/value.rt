@@ -21,6 +21,7 @@ pub const BODY: u64 = TAG * TAGS;
 pub const TAGS: u64 = 16;
 
 // The tags.
+// Kept: a tag is the number that stands in a value's four bits (`tag_of`, which the machine's definition reads).
 pub const UNIT: u64 = 0;
 
 pub const TRUTH: u64 = 1;

@@ -2,7 +2,7 @@
 use Prim.Native.Nat.{◌<◌}
 use native.Mathlib.Omega.{arith}
 use Rattle.image.specs.Limits.{term_limit}
-use Rattle.check_layout.proofs.Marked.{term_refused, term_passed, passed_capacity}
+use Rattle.check_layout.proofs.Marked.{term_passed, passed_capacity}
 use Rattle.check_layout.proofs.enter_term.Goals as goal
 
 pub put_term-requires : goal.put_term-requires
@@ -11,10 +11,6 @@ put_term-requires c =
     let r : c.args.counts.terms < term_limit = passed_capacity c.args.fields.now c.args.code c.args.counts c.term_fault-tested.result c.term_fault-tested.ensures.0 c.in-Passed.is p.0.term in
     let l = p.4 in
     (p.2, omega (arith, c.next.ensures))
-
-pub returns-in-Fault : goal.returns-in-Fault
-returns-in-Fault c =
-    term_refused _ _ _ _ c.term_fault-tested.ensures.0 c.in-Fault.is _ _ c.term_fault-tested.ensures.1
 
 pub returns-in-Passed : goal.returns-in-Passed
 returns-in-Passed c =

@@ -19,16 +19,6 @@ returns-then-not-none_empty c =
     let e : none_empty L ≡ false = none_empty_lem L _ _ _ s.counts.domains s.counts.types s.counts.terms ∙ sym r.ensures ∙ c.if-not-none_empty.true in
     sym (shape_empty L (length b) e)
 
-pub slice_bounds-check_passes-end : goal.slice_bounds-check_passes-end
-slice_bounds-check_passes-end c =
-    let s = c.requires.1 in
-    rw s.counts.domains (sym (ap length s.tables.domains))
-
-pub slice_bounds-check_passes-end-2 : goal.slice_bounds-check_passes-end-2
-slice_bounds-check_passes-end-2 c =
-    let s = c.requires.1 in
-    rw s.counts.terms (sym (ap length s.tables.terms))
-
 pub check_passes-requires : goal.check_passes-requires
 check_passes-requires c =
     let a = c.args in

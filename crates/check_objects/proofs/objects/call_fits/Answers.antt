@@ -1,35 +1,37 @@
 -- `check_objects::objects::call_fits` meets its contract.
+use mathlib.Core.Path.{◌≡◌, sym, ap, ◌∙◌}
+use mathlib.Core.Bool.{true}
 use native.Mathlib.Omega.{arith}
-use mathlib.Core.Path.{sym, ap, ◌∙◌}
-use Prim.Native.Nat.{◌≤◌, ◌<◌}
-use lib.Dec.{eqb}
-use borrow.Author.Tests.{lt-ltb, le-ltb}
-use Rattle.image.specs.Layout.{records_of}
-use Rattle.image.specs.Types.{method_count}
+use lib.Dec.{eqb, ltb}
+use Rattle.laws.proofs.Booleans.{lt_of, no_path}
 use Rattle.check_rules.proofs.Methods.{kind_seen, object_seen, first_fails, second_fails, third_tells}
 use Rattle.check_objects.proofs.objects.call_fits.Goals as goal
-
-pub returns-then-not-is_kind : goal.returns-then-not-is_kind
-returns-then-not-is_kind c =
-    first_fails _ _ _ (sym (kind_seen c.requires.0 c.requires.2 c.is_kind.ensures c.type_descriptor.ensures) ∙ c.if-not-is_kind.true)
+use Rattle.check_objects.proofs.objects.call_fits.Goals.{then-is_kind, else-is_kind}
 
 pub method_count-requires : goal.method_count-requires
 method_count-requires c =
-    (c.requires.1, object_seen c.requires.0 c.requires.2 c.is_kind.ensures c.type_descriptor.ensures (c.if-not-is_kind.false))
-
-pub returns-then-method_count-m : goal.returns-then-method_count-m
-returns-then-method_count-m c =
-    let o = object_seen c.requires.0 c.requires.2 c.is_kind.ensures c.type_descriptor.ensures (c.if-not-is_kind.false) in
-    let l : method_count (records_of c.args.image.now) c.args.a.0 ≤ c.args.m = omega (arith, c.method_count.ensures) in
-    second_fails _ _ _ o.object (le-ltb _ _ l)
+    (c.requires.1, object_seen c.requires.0 c.requires.2 c.is_kind.ensures c.type_descriptor.ensures c.if-is_kind.true)
 
 pub method_type-requires : goal.method_type-requires
-method_type-requires c =
-    let o = object_seen c.requires.0 c.requires.2 c.is_kind.ensures c.type_descriptor.ensures (c.if-not-is_kind.false) in
-    (c.requires.1, o, omega (arith, c.method_count.ensures))
+method_type-requires c = elim c.if-is_kind.branch [
+  | then-is_kind w ↦
+      let more : ltb c.args.m w.method_count.result ≡ true = sym w.value-is ∙ c.if-m-method_count.true in
+      (c.requires.1, object_seen c.requires.0 c.requires.2 c.is_kind.ensures c.type_descriptor.ensures w.if-is_kind.true, omega (arith, lt_of more, w.method_count.ensures))
+  | else-is_kind w ↦ no_path (sym c.if-m-method_count.true ∙ (w.value-is ∙ w.if-is_kind.false))
+]
 
-pub returns : goal.returns
-returns c =
-    let o = object_seen c.requires.0 c.requires.2 c.is_kind.ensures c.type_descriptor.ensures (c.if-not-is_kind.false) in
-    let l : c.args.m < method_count (records_of c.args.image.now) c.args.a.0 = omega (arith, c.method_count.ensures) in
-    c.same_type.ensures ∙ (ap (λ x. eqb x c.args.t.0) c.method_type.ensures ∙ third_tells _ _ _ o.object (lt-ltb _ _ l))
+pub returns-then-m-method_count : goal.returns-then-m-method_count
+returns-then-m-method_count c = elim c.if-is_kind.branch [
+  | then-is_kind w ↦
+      let o = object_seen c.requires.0 c.requires.2 c.is_kind.ensures c.type_descriptor.ensures w.if-is_kind.true in
+      c.same_type.ensures ∙ (ap (λ x. eqb x c.args.t.0) c.method_type.ensures ∙ third_tells _ _ _ o.object (rw w.method_count.ensures at (sym w.value-is ∙ c.if-m-method_count.true)))
+  | else-is_kind w ↦ no_path (sym c.if-m-method_count.true ∙ (w.value-is ∙ w.if-is_kind.false))
+]
+
+pub returns-else-m-method_count : goal.returns-else-m-method_count
+returns-else-m-method_count c = elim c.if-is_kind.branch [
+  | then-is_kind w ↦
+      let o = object_seen c.requires.0 c.requires.2 c.is_kind.ensures c.type_descriptor.ensures w.if-is_kind.true in
+      c.if-m-method_count.false ∙ second_fails _ _ _ o.object (rw w.method_count.ensures at (sym w.value-is ∙ c.if-m-method_count.false))
+  | else-is_kind w ↦ c.if-m-method_count.false ∙ first_fails _ _ _ (sym (kind_seen c.requires.0 c.requires.2 c.is_kind.ensures c.type_descriptor.ensures) ∙ w.if-is_kind.false)
+]

@@ -9,11 +9,11 @@ pub returns-then-entry-eq0 : goal.returns-then-entry-eq0
 unfolding all_of
 returns-then-entry-eq0 c = rw c.if-entry-eq0.true refl
 
-pub stated_type-pointcut-requires : goal.stated_type-pointcut-requires
-stated_type-pointcut-requires c =
+pub stated_type-requires : goal.stated_type-requires
+stated_type-requires c =
     (c.requires.0.terms, let e = c.entry_term.ensures in let h = c.requires.1 in omega arith)
 
-pub returns : goal.returns
+pub returns-else-entry-eq0 : goal.returns-else-entry-eq0
 unfolding all_of
-returns c =
-    rw (c.entry_term.ensures, c.is_kind.ensures, c.type_descriptor.ensures, c.stated_type-pointcut.ensures.0) (sym (and-true _))
+returns-else-entry-eq0 c =
+    rw (c.entry_term.ensures, c.is_kind.ensures, c.type_descriptor.ensures, c.stated_type.ensures.0) (sym (and-true _))

@@ -6,7 +6,7 @@ use lib.ListN.{get_or}
 use Rattle.image.specs.declared.Refusal.{Refusal}
 use Rattle.image.specs.Limits.{depth_limit}
 use Rattle.verdict.specs.Answers.{refused_at}
-use Rattle.check_shape.proofs.Answers.{from_start, from_end, from_next, from_here}
+use Rattle.check_shape.proofs.Answers.{from_end, from_next, from_here}
 use borrow.Author.Rules.{rules}
 use Rattle.check_shape.proofs.depths.first_deep.Goals as goal
 
@@ -29,6 +29,3 @@ pub returns : goal.returns
 returns c =
     let l = c.loop-i in
     sym (l.invariant.1 ∙ from_end _ _ _ _ l.i (omega arith))
-
-pub loop-i-init : goal.loop-i-init
-loop-i-init c = (search rules, from_start _ _ _ _)

@@ -1,8 +1,7 @@
 -- The loop marks what one entry after another names; the rest of the entries is left.
 use borrow.Author.Rules.{rules}
 use Prim.Native.Nat.{ℕ, ◌+◌}
-use native.Mathlib.Omega.{arith}
-use mathlib.Core.Path.{◌≡◌, refl, ap, subst, sym, ◌∙◌}
+use mathlib.Core.Path.{◌≡◌, ap, subst, sym, ◌∙◌}
 use mathlib.Core.List.{List, foldl-append}
 use lib.ListN.{length}
 use Rattle.image.specs.Kinds.{an_entry}
@@ -10,7 +9,7 @@ use Rattle.image.specs.Records.{as_child}
 use Rattle.verdict.specs.Shape.{set_all}
 use Rattle.read_records.specs.Codes.{count_of, children_in, entries_in}
 use Rattle.read_records.specs.Heads.{entries_of}
-use Rattle.read_records.proofs.Entries.{entries_left, all_left, next_left, none_left}
+use Rattle.read_records.proofs.Entries.{entries_left, all_left, next_left}
 use Rattle.check_uses.specs.Marks.{Lower}
 use Rattle.check_uses.proofs.ChildByChild.{lower_first, lower_rest}
 use Rattle.check_shape.proofs.descent.mark_entries.Goals as goal
@@ -18,19 +17,6 @@ use Rattle.check_shape.proofs.descent.mark_entries.Goals as goal
 -- The entries are those that are left at first.
 at_first : (fs : List ℕ) (x first count : ℕ) → first ≡ count_of x + children_in x (length fs) → count ≡ entries_in x (length fs) → entries_of x fs ≡ entries_left fs first count 0
 at_first fs x first count e f = rw (← e, ← f) (all_left fs first count)
-
-pub loop-j-init : goal.loop-j-init
-loop-j-init c =
-    let a = c.args in
-    let first = c.field_count-before.result + c.child_count.result in
-    let q : first ≡ count_of a.code + children_in a.code (length a.fields.now) = omega (arith, c.field_count-before.ensures, c.child_count.ensures) in
-    let e = at_first a.fields.now a.code first c.entry_count-count.result q c.entry_count-count.ensures in
-    (search rules, refl, subst (λ es. Lower (length a.depths.now) es) e c.requires.1, ap (λ es. set_all es a.d a.depths.now) e)
-
-pub field-requires : goal.field-requires
-field-requires c =
-    let p = c.requires.0 in
-    omega (arith, c.entry_count-count.ensures, c.child_count.ensures, c.field_count-before.ensures)
 
 pub mark_entry-requires : goal.mark_entry-requires
 mark_entry-requires c =
@@ -59,12 +45,3 @@ loop-j-preserved c =
     let deep : set_all (entries_left fs first count l.j) a.d l.depths ≡ set_all gs a.d ds = ap (λ xs. set_all xs a.d l.depths) e ∙ foldl-append _ l.depths es gs ∙ ap (λ xs. set_all gs a.d xs) (sym m.ensures) in
     let below = lower_rest (length l.depths) es gs (subst (λ xs. Lower (length l.depths) xs) e l.invariant.2) in
     (search rules, kept ∙ l.invariant.1, subst (λ q. Lower q gs) (sym kept) below, l.invariant.3 ∙ deep)
-
-pub returns : goal.returns
-returns c =
-    let l = c.loop-j in
-    let a = c.args in
-    let fs = a.fields.now in
-    let first = c.field_count-before.result + c.child_count.result in
-    let e = none_left fs first c.entry_count-count.result l.j (search rules) in
-    sym (l.invariant.3 ∙ ap (λ es. set_all es a.d l.depths) e)

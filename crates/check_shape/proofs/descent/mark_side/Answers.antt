@@ -1,7 +1,7 @@
 -- `check_shape::descent::mark_side` meets its contract: the loop marks one child after another; the rest of the list is left.
 use Prim.Native.Nat.{◌+◌, ◌≤◌, ◌<◌}
 use native.Mathlib.Omega.{arith}
-use mathlib.Core.Path.{◌≡◌, refl, ap, sym, ◌∙◌}
+use mathlib.Core.Path.{◌≡◌, ap, sym, ◌∙◌}
 use lib.ListN.{length, get_or, drop, set}
 use Rattle.verdict.specs.Shape.{set_all}
 use Rattle.verdict.proofs.Changes.{fold_next, fold_end}
@@ -47,6 +47,3 @@ returns c =
     let cs = side_of a.code a.fields.now in
     let h : length cs ≤ l.j = rw (side_length a.code a.fields.now) (omega (arith, c.child_count-count.ensures)) in
     sym (l.invariant.2 ∙ fold_end (λ ds n. set ds n a.d) cs l.depths l.j h)
-
-pub loop-j-init : goal.loop-j-init
-loop-j-init c = (search rules, refl, refl)

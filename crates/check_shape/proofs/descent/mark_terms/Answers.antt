@@ -1,21 +1,13 @@
 -- The loop goes down from the root; the lower terms are left.
 use Prim.Native.Nat.{◌-◌}
 use native.Mathlib.Omega.{arith}
-use mathlib.Core.Path.{refl, ap, sym, ◌∙◌}
+use mathlib.Core.Path.{ap, sym, ◌∙◌}
 use lib.ListN.{get_or}
 use Rattle.image.specs.Layout.{records_of}
 use Rattle.check_shape.specs.Depths.{capped_from}
 use Rattle.check_shape.specs.Records.{children_of_term}
 use Rattle.check_shape.proofs.DepthMarks.{capped_next, capped_end}
-use borrow.Author.Rules.{rules}
 use Rattle.check_shape.proofs.descent.mark_terms.Goals as goal
-
-pub mark_term-requires : goal.mark_term-requires
-mark_term-requires c =
-    let l = c.loop-i in
-    let test = c.loop-i-test.true in
-    let inside = c.loop-i.invariant.0 in
-    (c.requires.0, c.requires.1, l.invariant.1 ∙ c.requires.2, omega arith)
 
 pub loop-i-preserved : goal.loop-i-preserved
 loop-i-preserved c =
@@ -35,6 +27,3 @@ returns c =
     let l = c.loop-i in
     let L = records_of c.args.image.now in
     sym (l.invariant.2 ∙ capped_end L l.i l.depths (omega arith))
-
-pub loop-i-init : goal.loop-i-init
-loop-i-init c = (search rules, refl, refl)

@@ -1,19 +1,13 @@
 -- The loop keeps: the row gathered so far shows a fault if some e so far is one.
 use native.Mathlib.Omega.{arith}
-use mathlib.Core.Path.{◌≡◌, sym, ap, ◌∙◌}
+use mathlib.Core.Path.{sym, ap, ◌∙◌}
 use mathlib.Core.Bool.{false, not, ◌||◌, or-true}
-use lib.ListN.{get_or}
 use Rattle.image.specs.Limits.{domain_limit}
 use Rattle.check_shape.specs.Faults.{names}
 use Rattle.check_shape.proofs.Named.{found_none, found_absent, found_unnamed, found_own, found_other}
 use borrow.Author.Rules.{rules}
 use Rattle.check_shape.proofs.order.at_fault.Goals as goal
 use Rattle.check_shape.proofs.order.at_fault.Goals.{then-own-e+else-n-e+else-e-i, then-own-e+else-n-e+then-e-i, else-own-e}
-
-pub returns-then-not-own-i : goal.returns-then-not-own-i
-returns-then-not-own-i c =
-    let a = c.args in
-    simp (c.if-not-own-i.true)
 
 pub loop-e-init : goal.loop-e-init
 loop-e-init c =
@@ -40,11 +34,3 @@ loop-e-preserved c =
         | else-own-e w ↦ rw w.named-is (found_unnamed o a.n a.d.0 l.e l.named l.invariant.1 w.if-own-e.false)
       ],
     )
-
-pub returns : goal.returns
-returns c =
-    let a = c.args in
-    let l = c.loop-e in
-    let h : l.e ≡ domain_limit = omega arith in
-    let own = c.if-not-own-i.false in
-    simp own (c.either.ensures ∙ ap (get_or l.named a.d.0 false ||◌) c.gap_in.ensures ∙ rw h at l.invariant.1)

@@ -4,7 +4,7 @@ use mathlib.Core.Bool.{not}
 use mathlib.Core.Path.{ap, sym, ◌∙◌}
 use Rattle.image.specs.declared.Refusal.{Refusal}
 use Rattle.verdict.specs.Answers.{refused_at}
-use Rattle.check_shape.proofs.Answers.{from_start, from_end, from_next, from_here}
+use Rattle.check_shape.proofs.Answers.{from_end, from_next, from_here}
 use borrow.Author.Rules.{rules}
 use Rattle.check_shape.proofs.order.first_unordered.Goals as goal
 
@@ -22,6 +22,3 @@ pub returns : goal.returns
 returns c =
     let l = c.loop-d in
     sym (l.invariant.1 ∙ from_end _ _ _ _ l.d (omega arith))
-
-pub loop-d-init : goal.loop-d-init
-loop-d-init c = (search rules, from_start _ _ _ _)

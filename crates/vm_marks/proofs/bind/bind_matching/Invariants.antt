@@ -9,7 +9,4 @@ use Rattle.vm_marks.proofs.bind.bind_matching.Given as goal
 
 abbrev pub invariant-loop-i : goal.invariant-loop-i
 invariant-loop-i l =
-    (l.i ≤ l.n) × (length l.work ≡ length l.initial.work) × (whole l.initial.q ≤ whole l.q) × (whole l.q + l.i ≤ whole l.initial.q + l.n) × (drop memory_length l.work ≡ drop memory_length l.initial.work) × (bind_matching l.n l.l l.v (bound_in l.initial.work l.initial.q) ≡ bind_matching l.i l.l l.v (bound_in l.work l.q))
-
-abbrev pub decreases-loop-i : goal.decreases-loop-i
-decreases-loop-i l = l.i
+    (length l.work ≡ length l.initial.work) × (whole l.initial.q ≤ whole l.q) × (whole l.q + l.i ≤ whole l.initial.q + l.n) × (drop memory_length l.work ≡ drop memory_length l.initial.work) × (bind_matching l.n l.l l.v (bound_in l.initial.work l.initial.q) ≡ bind_matching l.i l.l l.v (bound_in l.work l.q))

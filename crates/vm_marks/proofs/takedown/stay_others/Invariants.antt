@@ -8,7 +8,4 @@ use Rattle.vm_marks.proofs.takedown.stay_others.Given as goal
 
 abbrev pub invariant-loop-i : goal.invariant-loop-i
 invariant-loop-i l =
-    (l.i ≤ l.n) × (length l.work ≡ length l.initial.work) × (l.m ≤ l.i) × (drop memory_length l.work ≡ drop memory_length l.initial.work) × (stay_others l.n 0 l.d.0 (bound_in l.initial.work 0) ≡ stay_others (l.n - l.i) l.i l.d.0 (bound_in l.work l.m))
-
-abbrev pub decreases-loop-i : goal.decreases-loop-i
-decreases-loop-i l = l.n - l.i
+    (length l.work ≡ length l.initial.work) × (l.m ≤ l.i) × (drop memory_length l.work ≡ drop memory_length l.initial.work) × (stay_others l.n 0 l.d.0 (bound_in l.initial.work 0) ≡ stay_others (l.n - l.i) l.i l.d.0 (bound_in l.work l.m))

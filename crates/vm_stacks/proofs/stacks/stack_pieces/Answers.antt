@@ -1,5 +1,4 @@
 use mathlib.Core.Path.{refl, ◌∙◌}
-use native.Mathlib.Omega.{arith}
 use Prim.Native.Nat.{◌-◌}
 use Rattle.vm_stacks.proofs.Stacked.{pieces_start, pieces_on, pieces_done}
 use borrow.Author.Rules.{rules}
