@@ -1,22 +1,16 @@
 -- The loop marks what one entry after another names; the rest of the entries is left.
 use borrow.Author.Rules.{rules}
-use Prim.Native.Nat.{ℕ, ◌+◌}
+use Prim.Native.Nat.{◌+◌}
 use mathlib.Core.Path.{◌≡◌, ap, subst, sym, ◌∙◌}
-use mathlib.Core.List.{List, foldl-append}
+use mathlib.Core.List.{foldl-append}
 use lib.ListN.{length}
 use Rattle.image.specs.Kinds.{an_entry}
 use Rattle.image.specs.Records.{as_child}
 use Rattle.verdict.specs.Shape.{set_all}
-use Rattle.read_records.specs.Codes.{count_of, children_in, entries_in}
-use Rattle.read_records.specs.Heads.{entries_of}
-use Rattle.read_records.proofs.Entries.{entries_left, all_left, next_left}
+use Rattle.read_records.proofs.Entries.{entries_left, next_left}
 use Rattle.check_uses.specs.Marks.{Lower}
 use Rattle.check_uses.proofs.ChildByChild.{lower_first, lower_rest}
 use Rattle.check_shape.proofs.descent.mark_entries.Goals as goal
-
--- The entries are those that are left at first.
-at_first : (fs : List ℕ) (x first count : ℕ) → first ≡ count_of x + children_in x (length fs) → count ≡ entries_in x (length fs) → entries_of x fs ≡ entries_left fs first count 0
-at_first fs x first count e f = rw (← e, ← f) (all_left fs first count)
 
 pub mark_entry-requires : goal.mark_entry-requires
 mark_entry-requires c =
