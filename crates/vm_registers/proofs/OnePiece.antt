@@ -1,14 +1,13 @@
 -- One more piece, charged to one half (card 9).
 use Prim.Native.Nat.{ℕ, ◌<◌}
 use mathlib.Core.Path.{◌≡◌, refl, sym, ap, subst, ◌∙◌}
-use mathlib.Core.Bool.{Bool, true, false}
+use mathlib.Core.Bool.{Bool, true}
 use mathlib.Core.List.{List}
 use Rattle.calculus.specs.Limits.{piece_limit}
-use Rattle.calculus.specs.Report.{outcome_number}
 use Rattle.vm_code.specs.Values.{value}
 use Rattle.vm_pools.specs.declared.Pools.{Pools}
 use Rattle.vm_machine.specs.declared.Regs.{Regs}
-use Rattle.vm_machine.specs.Registers.{fuel_bias, set_pools, halt_with}
+use Rattle.vm_machine.specs.Registers.{fuel_bias, set_pools}
 use Rattle.vm_pools.specs.Pools.{whole, charge_pieces, has_capacity, pieces_out}
 use Rattle.vm_machine.specs.Quotas.{quota_of}
 use Rattle.vm_machine.specs.Memory.{put_piece}
@@ -17,7 +16,7 @@ use Rattle.vm_memory.specs.View.{memory_of, Holds}
 use Rattle.vm_registers.specs.Phases.{Phase}
 use Rattle.vm_registers.proofs.Made.{stored_set}
 use Rattle.vm_registers.proofs.Ended.{given_as}
-use Rattle.vm_registers.proofs.Quotas.{quota_made, quota_full}
+use Rattle.vm_registers.proofs.Quotas.{quota_made}
 
 -- The half h, which the instruction charges, has room or not.
 module _ (a b c : List ℕ) (r q : Regs) (w tag x y : ℕ) (h t : Bool) (is : h ≡ quota_of w) (test : t ≡ has_capacity piece_limit h 1 r.pools.pieces) where
@@ -28,6 +27,3 @@ module _ (a b c : List ℕ) (r q : Regs) (w tag x y : ℕ) (h t : Bool) (is : h 
       subst (λ (z : Pools). Phase (new_piece w tag x y) a c r (set_pools z q)) (sym z)
       (quota_made piece_limit 1 (λ p. p.pieces) pieces_out w r h t is test _ a _ c l k
       (stored_set (given w (value tag N)) _ (set_pools (charge_pieces (quota_of w) 1 r.pools)) (put_piece N x y (memory_of a)) a b c r q (λ log. refl) (subst (λ (i : ℕ). Holds (put_piece i x y (memory_of a)) a b) e m) (given_as b c r q w v _ (d ∙ ap (value tag) e) p)))
-
-  pub no_piece_made : (o : ℕ) → t ≡ false → o ≡ outcome_number (pieces_out h) → q ≡ halt_with o r.fuel r → Phase (new_piece w tag x y) a a r q
-  no_piece_made = quota_full piece_limit 1 (λ p. p.pieces) pieces_out w r h t is test _ a q
