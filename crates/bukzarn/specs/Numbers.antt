@@ -7,7 +7,7 @@ use Rattle.image_needs.specs.Forecasts.{forecast_place}
 use Rattle.call_spec.specs.Calls.{Left}
 use Rattle.write_fixed.specs.declared.Written.{Written}
 use Rattle.write_fixed.specs.Calls.{written_number, written_place, written_bytes}
-use Rattle.write_load.specs.declared.Load.{Load}
+use Rattle.write_load.specs.declared.LoadError.{LoadError}
 use Rattle.write_load.specs.Loads.{load_number, load_bytes}
 use Rattle.write_stripped.specs.declared.Stripped.{Stripped}
 use Rattle.write_stripped.specs.Calls.{stripped_number, stripped_place, stripped_bytes}
@@ -24,7 +24,7 @@ need_as_number f places = refused_as_number (need_number f places) (forecast_pla
 abbrev pub written_as_number : Written → ℕ
 written_as_number w = as_number (written_bytes w) (written_number w) (written_place w)
 
-abbrev pub load_as_number : Load → ℕ
+abbrev pub load_as_number : Result ℕ LoadError → ℕ
 load_as_number a = as_number (load_bytes a) (load_number a) 0
 
 abbrev pub stripped_as_number : Stripped → ℕ

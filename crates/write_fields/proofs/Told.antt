@@ -1,5 +1,5 @@
 -- The fields that a code tells are those of its kind's row.
-use Prim.Native.Nat.{ℕ, zero, suc, ◌+◌, ◌-◌, ◌*◌, ◌/◌, ◌%◌, ◌≤◌, ◌<◌}
+use Prim.Native.Nat.{ℕ, zero, suc, ◌+◌, ◌-◌, ◌*◌, ◌/◌, ◌%◌, ◌^◌, ◌≤◌, ◌<◌}
 use native.Mathlib.Omega.{arith}
 use native.Mathlib.Nat.{suc-mul}
 use mathlib.Core.Path.{◌≡◌, refl, sym, ap, subst, ◌∙◌}
@@ -153,22 +153,16 @@ module _ (k : Kind) (x : ℕ) (P : Packs k x) (c : ℕ) where
   pub slot_small : (i : ℕ) → i < n → slot_in x n i < 6
   slot_small i l = let s = (slot_right i l).0 in let w = widths in let c = six_classes k in omega arith
 
--- The classes, one by one.
-pub digit2 : (cs : ℕ) → cs / 64 % 8 ≡ digit_at 2 cs
+-- The class at a place, by its bits.
+pub digit_is : (j cs : ℕ) → j < 6 → cs / 2 ^ (3 * j) % 8 ≡ digit_at j cs
 unfolding digit_at
-digit2 cs = omega arith
-
-pub digit3 : (cs : ℕ) → cs / 512 % 8 ≡ digit_at 3 cs
-unfolding digit_at
-digit3 cs = omega arith
-
-pub digit4 : (cs : ℕ) → cs / 4096 % 8 ≡ digit_at 4 cs
-unfolding digit_at
-digit4 cs = omega arith
-
-pub digit5 : (cs : ℕ) → cs / 32768 % 8 ≡ digit_at 5 cs
-unfolding digit_at
-digit5 cs = omega arith
+digit_is zero cs l = omega arith
+digit_is (suc zero) cs l = omega arith
+digit_is (suc (suc zero)) cs l = omega arith
+digit_is (suc (suc (suc zero))) cs l = omega arith
+digit_is (suc (suc (suc (suc zero)))) cs l = omega arith
+digit_is (suc (suc (suc (suc (suc zero))))) cs l = omega arith
+digit_is (suc (suc (suc (suc (suc (suc j)))))) cs l = absurd (omega arith)
 
 -- Of a record of the kind with the number q, whose fields are fs.
 module _ (q : ℕ) (fs : List ℕ) (K : Known q fs) where

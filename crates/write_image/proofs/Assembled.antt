@@ -29,7 +29,7 @@ use Rattle.image_written.proofs.Sizes.{term_size, terms_size}
 use Rattle.image_written.proofs.Fronts.{tree_at, program_at}
 use Rattle.write_types.specs.Entries.{no_place, Entries, entries_of, Placed}
 use Rattle.write_sections.specs.Sections.{domain_bytes, type_bytes}
-use Rattle.write_program.specs.declared.Done.{Done}
+use Rattle.write_records.specs.declared.Done.{Done}
 use Rattle.write_program.specs.Writing.{Capacity, Wrote}
 
 -- A table of masks holds those of the image's domains.

@@ -14,13 +14,14 @@ ghost use Rattle.image_written.specs.Written.{fixed};
 ghost use Rattle.write_sections.specs.Sections.{domain_bytes};
 ghost use Rattle.write_image.specs.Fits.{Fits};
 
-use image::{DOMAIN_LIMIT, TYPE_LIMIT};
+use image::DOMAIN_LIMIT;
 use read_records::numbers::{Counts, TermNo};
 use read_terms::domains::set_masks;
-use write_program::{Done, write_term};
+use write_program::write_term;
+use write_records::Done;
 use write_sections::{write_domains, write_types};
 use write_terms::enter_term;
-use write_types::NO_PLACE;
+use write_types::TypeTable;
 
 // The last term is the root.
 fn root_of(counts: Counts) -> TermNo
@@ -37,10 +38,10 @@ fn keep_domains(image: &[u8], doms: &[u16], count: usize, out: &mut [u8]) -> usi
 {
     let mut masks = [0u16; DOMAIN_LIMIT];
     set_masks(image, doms, count, &mut masks);
-    write_domains(&masks, count, out)
+    write_domains(&masks[..count], out)
 }
 
-// The whole, over tables of its own for the order of the types.
+// The whole, over a table of its own for the order of the types.
 pub fn write_whole(
     image: &[u8],
     codes: &[u32],
@@ -54,15 +55,13 @@ pub fn write_whole(
     ensures { (result ≡ length (fixed image.now)) × (out.new ≡ over 0 (fixed image.now) out.old) }
 {
     let root = root_of(counts);
-    let mut places = [NO_PLACE; TYPE_LIMIT];
-    let mut order = [0u16; TYPE_LIMIT];
-    let n = enter_term(image, codes, types, terms, &mut places, &mut order, 0, root);
+    let mut table = TypeTable::empty();
+    enter_term(image, codes, types, terms, &mut table, root);
     let behind_domains = keep_domains(image, doms, counts.domains, out);
-    let behind_types = write_types(image, codes, types, &places, &order, n, out, behind_domains);
+    let behind_types = write_types(image, codes, types, &table, out, behind_domains);
     let start = Done {
         at: behind_types,
         terms: 0,
     };
-    let done = write_term(image, codes, terms, &places, out, start, root);
-    done.at
+    write_term(image, codes, terms, &table, out, start, root).at
 }

@@ -1,4 +1,5 @@
 -- Card 12: every generated image is accepted, and it is the same in every output.
+use Rattle.std.specs.Prelude.{Ok}
 use Prim.Native.Nat.{ℕ, ◌≤◌}
 use native.Mathlib.Omega.{arith}
 use mathlib.Core.Path.{◌≡◌, refl, sym, ap, ◌∙◌}
@@ -10,7 +11,6 @@ use Rattle.base_bytes.specs.Bytes.{over}
 use Rattle.base_bytes.proofs.Over.{over_front, drop_over}
 use Rattle.image_written.specs.Generated.{load_depth_limit, load_length, generated}
 use Rattle.image_written.proofs.Load.{generated_holds, generated_short}
-use Rattle.write_load.specs.declared.Load.{Load}
 use Rattle.write_load.specs.Loads.{Call, loaded}
 use Rattle.write_load.specs.Card12.{SameBytes, Card12}
 use Rattle.write_load.proofs.Whole.{loaded_written}
@@ -19,7 +19,7 @@ same_bytes : (depth seed : ℕ) (out : List ℕ) → 1 ≤ depth → depth ≤ l
 same_bytes depth seed out h l m =
     let g : List ℕ = generated depth seed in
     let s = generated_short depth seed l in
-    let e : ◌≡◌ {A = Call} (record { answer = Load.Written (length g); output = over 0 g out }) (loaded seed depth out) = loaded_written seed depth out h l m refl refl in
+    let e : ◌≡◌ {A = Call} (record { answer = Ok (length g); output = over 0 g out }) (loaded seed depth out) = loaded_written seed depth out h l m refl refl in
     record {
       answer = ap (λ c. c.answer) (sym e);
       image = ap (λ c. take (length g) c.output) (sym e) ∙ ap (λ o. take (length g) o) (over_front g out) ∙ take-append_seam g (drop (length g) out);

@@ -7,12 +7,11 @@ use Rattle.verdict.specs.Answers.{Verdict}
 use Rattle.verdict.specs.Domains.{masks}
 use Rattle.verdict.specs.Verdicts.{verdict}
 use Rattle.image_written.specs.Generated.{grow, load_length, generated}
-use Rattle.write_load.specs.declared.Load.{Load}
 use Rattle.write_load.specs.Loads.{loaded}
 
 -- What a call leaves in an output: the image of the seed and the depth, whatever the output held; "output past the image stays".
 pub record SameBytes (depth seed : ℕ) (out : List ℕ) : Type 0 where
-  pub answer : (loaded seed depth out).answer ≡ Load.Written (length (generated depth seed))
+  pub answer : (loaded seed depth out).answer ≡ Ok (length (generated depth seed))
   pub image : take (length (generated depth seed)) (loaded seed depth out).output ≡ generated depth seed
   pub past : drop (length (generated depth seed)) (loaded seed depth out).output ≡ drop (length (generated depth seed)) out
 

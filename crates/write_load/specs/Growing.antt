@@ -8,7 +8,7 @@ use Rattle.image_written.specs.Written.{terms, term_records}
 use Rattle.image_written.specs.Generated.{grow, load_types}
 use Rattle.image_written.proofs.Load.{most}
 use Rattle.write_sections.specs.Sections.{domain_bytes, type_bytes}
-use Rattle.write_load.specs.declared.Done.{Done}
+use Rattle.write_load.specs.declared.Growth.{Growth}
 
 -- The bytes of the domain and of the types, unit and number, that every image has.
 unfoldable pub head_bytes : List ℕ
@@ -29,21 +29,21 @@ abbrev pub number_follows : ℕ → ℕ → Bool
 number_follows c d = choose (eqb c 0) true (choose (eqb c 3) (ltb d 2) false)
 
 -- There is room for the largest tree of depth d + 1.
-pub record Capacity (out : List ℕ) (done : Done) (d : ℕ) : Type 0 where
+pub record Capacity (out : List ℕ) (done : Growth) (d : ℕ) : Type 0 where
   pub depth : d ≤ 8
-  pub bytes : done.at + 12 * most d ≤ length out
-  pub terms : done.terms + most d ≤ term_limit
+  pub bytes : done.done.at + 12 * most d ≤ length out
+  pub terms : done.done.terms + most d ≤ term_limit
 
 -- One record more, of a kind and with these fields.
-pub record Put (out : List ℕ) (done : Done) (out' : List ℕ) (r : Done) (kind : ℕ) (fields : List ℕ) : Type 0 where
-  pub bytes : out' ≡ over done.at (little ((4 + 2 * length fields) ∷ kind ∷ fields)) out
-  pub at : r.at ≡ done.at + (4 + 2 * length fields)
-  pub terms : r.terms ≡ done.terms + 1
+pub record Put (out : List ℕ) (done : Growth) (out' : List ℕ) (r : Growth) (kind : ℕ) (fields : List ℕ) : Type 0 where
+  pub bytes : out' ≡ over done.done.at (little ((4 + 2 * length fields) ∷ kind ∷ fields)) out
+  pub at : r.done.at ≡ done.done.at + (4 + 2 * length fields)
+  pub terms : r.done.terms ≡ done.done.terms + 1
   pub state : r.state ≡ done.state
 
 -- A tree of depth d + 1 more, drawn from the state.
-pub record Grew (d : ℕ) (out : List ℕ) (done : Done) (out' : List ℕ) (r : Done) : Type 0 where
-  pub bytes : out' ≡ over done.at (image (term_records load_types done.terms (grow d done.state).tree)) out
-  pub at : r.at ≡ done.at + length (image (term_records load_types done.terms (grow d done.state).tree))
-  pub terms : r.terms ≡ done.terms + terms (grow d done.state).tree
+pub record Grew (d : ℕ) (out : List ℕ) (done : Growth) (out' : List ℕ) (r : Growth) : Type 0 where
+  pub bytes : out' ≡ over done.done.at (image (term_records load_types done.done.terms (grow d done.state).tree)) out
+  pub at : r.done.at ≡ done.done.at + length (image (term_records load_types done.done.terms (grow d done.state).tree))
+  pub terms : r.done.terms ≡ done.done.terms + terms (grow d done.state).tree
   pub state : r.state ≡ (grow d done.state).state

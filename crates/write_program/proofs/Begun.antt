@@ -31,7 +31,7 @@ use Rattle.image_written.proofs.Fronts.{tree_at, trees, sorts_at, numbers_of, ki
 use Rattle.write_types.specs.Entries.{Placed, kept_number}
 use Rattle.write_types.proofs.Located.{class_type}
 use Rattle.write_terms.proofs.Located.{good, next_child, child_lower, next_same, typed}
-use Rattle.write_program.specs.declared.Done.{Done}
+use Rattle.write_records.specs.declared.Done.{Done}
 use Rattle.write_program.specs.Writing.{Capacity, Wrote}
 use Rattle.write_program.proofs.Writing.{child_field, kept_field, one_child, first_numbers, one_number, term_written}
 
@@ -249,9 +249,9 @@ module _ {b table : List ℕ} (M : Terms b table) {n : ℕ} (h : IsTerm b n) whe
               ∙ sym (kept_field L T places Q g w y (λ s. let t = type_field_lem L n i l s in ap (λ z. get_or places z 0) t ∙ P.each (type_no L n) (typed M h) (formed_first T F) ∙ ap (λ z. place T (type_of L z)) (sym t)))
 
   -- All fields, and the record.
-  pub begun_all : {places out₀ out out' numbers : List ℕ} {d m : Done} (i count kind : ℕ) → length (sorts_at L n) ≡ count → i ≡ count → count ≤ length numbers → kind ≡ number_at b (term_place L n) → Capacity b n d (length out₀) → Come b n i d m
-      → Begun b places n d i out₀ out numbers → out' ≡ over m.at (little ((4 + 2 * count) ∷ (kind ∷ take count numbers))) out → Wrote b places n d out₀ out'
-  begun_all {places} {out₀} {out} {out'} {numbers} {d} {m} i count kind s t k e R C B w = record { over_table = told }
+  pub begun_all : {places out₀ out out' numbers : List ℕ} {d m : Done} (i kind : ℕ) → i ≡ length (sorts_at L n) → i ≤ length numbers → kind ≡ number_at b (term_place L n) → Capacity b n d (length out₀) → Come b n i d m
+      → Begun b places n d i out₀ out numbers → out' ≡ over m.at (little ((4 + 2 * length (take i numbers)) ∷ (kind ∷ take i numbers))) out → Wrote b places n d out₀ out'
+  begun_all {places} {out₀} {out} {out'} {numbers} {d} {m} i kind s k e R C B w = record { over_table = told }
     where
       told : (T : List Ty) → Placed b places T → Formed D T (tree_at L n) → out' ≡ over d.at (image (term_records T d.terms (tree_at L n))) out₀
       told T P F =
@@ -261,13 +261,11 @@ module _ {b table : List ℕ} (M : Terms b table) {n : ℕ} (h : IsTerm b n) whe
           let number : ℕ = (term_row (term_kind L n)).number in
           let z : length before ≡ weight_all term_size (trees L (kids L n i)) = terms_size_all D T T d.terms (trees L (kids L n i)) (formed_kids T F i) in
           let a : m.at ≡ d.at + length before = C.at ∙ ap (λ q. d.at + q) (sym z) in
-          let x : take count numbers ≡ fields = ap (λ j. take j numbers) (sym t) ∙ W.1 in
-          let y : count ≡ length fields = sym (ap length (sym x) ∙ length-take-le count numbers k) in
           let o : kind ≡ number = e ∙ ap (λ j. number_at j (term_place L n)) (sym (image_kept b L M.laid_out)) ∙ ((good M h).terms n h).is.stands.number in
           let v : out' ≡ over (d.at + length before) (little ((4 + 2 * length fields) ∷ (number ∷ fields))) out =
-          w ∙ ap (λ q. over q (little ((4 + 2 * count) ∷ (kind ∷ take count numbers))) out) a
-          ∙ ap (λ q. over (d.at + length before) (little ((4 + 2 * count) ∷ (q ∷ take count numbers))) out) o
-          ∙ ap (λ ws. over (d.at + length before) (little ((4 + 2 * count) ∷ (number ∷ ws))) out) x
-          ∙ ap (λ q. over (d.at + length before) (little ((4 + 2 * q) ∷ (number ∷ fields))) out) y in
+          w ∙ ap (λ q. over q (little ((4 + 2 * length (take i numbers)) ∷ (kind ∷ take i numbers))) out) a
+          ∙ ap (λ q. over (d.at + length before) (little ((4 + 2 * length (take i numbers)) ∷ (q ∷ take i numbers))) out) o
+          ∙ ap (λ ws. over (d.at + length before) (little ((4 + 2 * length ws) ∷ (number ∷ ws))) out) W.1 in
           let r = record_capacity i R C in
+          let q : length fields ≡ i = sym (ap length W.1) ∙ length-take-le i numbers k in
           term_written L T (good M h) n d.terms h i (omega arith) out₀ d.at W.0 v (omega arith)

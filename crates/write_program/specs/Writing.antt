@@ -11,7 +11,7 @@ use Rattle.image_written.proofs.Sums.{weight}
 use Rattle.image_written.proofs.Sizes.{term_size}
 use Rattle.image_written.proofs.Fronts.{tree_at}
 use Rattle.write_types.specs.Entries.{Placed}
-use Rattle.write_program.specs.declared.Done.{Done}
+use Rattle.write_records.specs.declared.Done.{Done}
 
 -- How far the output is written behind term e of the image b, where it was written up to d before: its records have the known fields alone, so their length does not depend on any number in them.
 abbrev pub behind : List ℕ → ℕ → Done → Done

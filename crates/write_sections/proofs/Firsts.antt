@@ -75,14 +75,8 @@ module _ (rs : List Record) where
         onward (firsts i) (bytes r) out₀ start at' e f come (omega arith) ∙ ap (λ q. over start (firsts i ++ bytes q) out₀) (sym same) ∙ ap (λ bs. over start bs out₀) (sym (firsts_more i l))
 
 -- The records of the domains.
-pub domain_at : (ms : List ℕ) (count i : ℕ) → i < count → count ≤ length ms → (i < length (map (λ m. domain_record m) (take count ms))) × (get_or (map (λ m. domain_record m) (take count ms)) i (record_of domain []) ≡ domain_record (get_or ms i 0))
-domain_at ms count i l h =
-    let n = length-take-le count ms h in
-    let k = length-map (take count ms) (λ m. domain_record m) in
-    (omega arith, map_at (λ m. domain_record m) (take count ms) i 0 (record_of domain []) (omega arith) ∙ ap (λ m. domain_record m) (get_or-take count ms i 0 l))
-
-pub domains_count : (ms : List ℕ) (count : ℕ) → count ≤ length ms → length (map (λ m. domain_record m) (take count ms)) ≡ count
-domains_count ms count h = length-map (take count ms) (λ m. domain_record m) ∙ length-take-le count ms h
+pub domain_at : (ms : List ℕ) (i : ℕ) → i < length ms → (i < length (map (λ m. domain_record m) ms)) × (get_or (map (λ m. domain_record m) ms) i (record_of domain []) ≡ domain_record (get_or ms i 0))
+domain_at ms i l = let k = length-map ms (λ m. domain_record m) in (omega arith, map_at (λ m. domain_record m) ms i 0 (record_of domain []) l)
 
 -- And of the types of a table.
 module _ {b : List ℕ} {n : ℕ} {places order : List ℕ} (E : Entries b n places order) where

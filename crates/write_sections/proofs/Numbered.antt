@@ -5,7 +5,7 @@ use mathlib.Core.Path.{◌≡◌, refl, sym, ap, subst, ◌∙◌}
 use mathlib.Core.Bool.{true}
 use mathlib.Core.List.{List, [], ◌∷◌, ◌++◌}
 use lib.ListN.{length, get_or, set, take}
-use lib.Seq.{take-suc-set, take_all, length-take-le}
+use lib.Seq.{take-suc-set, take_all}
 use Rattle.calculus.specs.Syntax.{Ty}
 use Rattle.image.specs.Bytes.{number_at}
 use Rattle.image.specs.Kinds.{in_domains, in_operations, in_truths, any_number, Field, a_type, own, free, a_term, an_entry, type_row_of}
@@ -118,22 +118,18 @@ module _ {b table : List ℕ} (O : TypeOffsets b table) {t : ℕ} (h : IsType b 
             ∙ ap (λ m. part_nos T (parts_from of (take m (sorts_at b t)) (take m (type_fields L t)))) j
 
   -- All fields, and the record.
-  pub numbered_all : {places numbers out out' : List ℕ} (i count kind place : ℕ) → length (sorts_at b t) ≡ count → i ≡ count → count ≤ length numbers → kind ≡ number_at b (type_place L t) → Numbered b places t i numbers
-      → out' ≡ over place (little ((4 + 2 * count) ∷ (kind ∷ take count numbers))) out → WroteType b places t place out out'
+  pub numbered_all : {places numbers out out' : List ℕ} (i kind place : ℕ) → length (sorts_at b t) ≤ i → kind ≡ number_at b (type_place L t) → Numbered b places t i numbers
+      → out' ≡ over place (little ((4 + 2 * length (take i numbers)) ∷ (kind ∷ take i numbers))) out → WroteType b places t place out out'
   unfolding bytes
-  numbered_all {places} {numbers} {out} {out'} i count kind place s u k e N w = record { over_table = told' }
+  numbered_all {places} {numbers} {out} {out'} i kind place s e N w = record { over_table = told' }
     where
       told' : (T : List Ty) → Placed b places T → PartsIn (length L.domains) T (parts_of (type_of L t)) → out' ≡ over place (bytes (type_record T (type_of L t))) out
       told' T P Q =
           let fields : List ℕ = part_nos T (parts_of (type_of L t)) in
           let number : ℕ = (type_row_of (head_of (type_of L t))).number in
           let c = counted in
-          let all : part_nos T (parts_from of (take i (sorts_at b t)) (take i (type_fields L t))) ≡ fields =
-          ap (λ fs. part_nos T (parts_from of fs (take i (type_fields L t)))) (take_all i (sorts_at b t) (omega arith))
+          let x : take i numbers ≡ fields =
+          N.told T P Q ∙ ap (λ fs. part_nos T (parts_from of fs (take i (type_fields L t)))) (take_all i (sorts_at b t) s)
           ∙ ap (λ ws. part_nos T (parts_from of (sorts_at b t) ws)) (take_all i (type_fields L t) (omega arith)) ∙ ap (λ ps. part_nos T ps) (sym parts_are) in
-          let x : take count numbers ≡ fields = ap (λ j. take j numbers) (sym u) ∙ N.told T P Q ∙ all in
-          let y : count ≡ length fields = sym (ap length (sym x) ∙ length-take-le count numbers k) in
           let o : kind ≡ number = e ∙ ap (λ j. number_at j (type_place L t)) (sym (image_kept b L O.laid_out)) ∙ ((good O h).types t h).is.stands.number ∙ ap (λ q. (type_row_of q).number) (kind_head L (good O h) t h) in
-          w ∙ ap (λ q. over place (little ((4 + 2 * count) ∷ (q ∷ take count numbers))) out) o
-          ∙ ap (λ ws. over place (little ((4 + 2 * count) ∷ (number ∷ ws))) out) x
-          ∙ ap (λ q. over place (little ((4 + 2 * q) ∷ (number ∷ fields))) out) y
+          w ∙ ap (λ q. over place (little ((4 + 2 * length (take i numbers)) ∷ (q ∷ take i numbers))) out) o ∙ ap (λ ws. over place (little ((4 + 2 * length ws) ∷ (number ∷ ws))) out) x

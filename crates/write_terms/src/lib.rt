@@ -9,42 +9,32 @@ ghost use Rattle.read_records.specs.Codes.{kind_codes};
 ghost use Rattle.read_terms.specs.Lent.{Terms, TypeOffsets, IsTerm};
 ghost use Rattle.image_written.specs.Table.{entered, types_in};
 ghost use Rattle.image_written.proofs.Fronts.{tree_at};
-ghost use Rattle.write_types.specs.Entries.{Entries, entries_of};
+ghost use Rattle.write_types.specs.Entries.{TableOf, types_of};
 
 use read_records::fields::field;
 use read_records::numbers::TermNo;
 use read_terms::terms::{own_type, term_fields, term_kind};
-use write_fields::{child_no, class_of, is_child, known_fields};
-use write_types::enter_type;
+use write_fields::{Fields, child_of};
+use write_types::TypeTable;
 
-// The types of a term and of those below it are entered into the table of n types: its children's, left to right, then its
-// own. The table then has so many types.
+// The types of a term and of those below it are entered into the table: its children's, left to right, then its own.
 pub fn enter_term(
     image: &[u8],
     codes: &[u32],
     types: &[u16],
     terms: &[u16],
-    places: &mut [u16],
-    order: &mut [u16],
-    n: usize,
+    table: &mut TypeTable,
     e: TermNo,
-) -> usize
-    requires { (codes.now ≡ kind_codes) × TypeOffsets image.now types.now × Terms image.now terms.now × Entries image.now n places.old order.old × IsTerm image.now e.0 }
-    ensures { Entries image.now result places.new order.new × (entries_of image.now result order.new ≡ entered (entries_of image.now n order.old) (types_in (tree_at (records_of image.now) e.0))) }
+)
+    requires { (codes.now ≡ kind_codes) × TypeOffsets image.now types.now × Terms image.now terms.now × TableOf image.now table.old × IsTerm image.now e.0 }
+    ensures { TableOf image.now table.new × (types_of image.now table.new ≡ entered (types_of image.now table.old) (types_in (tree_at (records_of image.now) e.0))) }
 {
     let fields = term_fields(image, terms, e);
-    let known = known_fields(codes, term_kind(image, terms, e), fields);
-    let mut m = n;
-    let mut i: usize = 0;
-    while i < known.count {
-        let class = class_of(known, i);
-        let v = field(fields, i);
-        if is_child(class, v) {
-            let child = child_no(class, v);
-            m = enter_term(image, codes, types, terms, places, order, m, child);
+    let known = Fields::known(codes, term_kind(image, terms, e), fields);
+    for i in 0..known.count {
+        if let Some(child) = child_of(known.class_of(i), field(fields, i)) {
+            enter_term(image, codes, types, terms, table, child);
         }
-        i += 1;
     }
-    let t = own_type(fields);
-    enter_type(image, codes, types, places, order, m, t)
+    table.enter_type(image, codes, types, own_type(fields));
 }

@@ -8,6 +8,7 @@ use lib.ListN.{length, get_or, set, take, length-map, length-append, length-set}
 use lib.Seq.{take-suc-set, length-take-le, get_or-set_same, get_or-set_other}
 use lib.Dec.{eqb}
 use Rattle.calculus.specs.Syntax.{Ty}
+use Rattle.image.specs.Limits.{type_limit}
 use Rattle.image.specs.Layout.{records_of}
 use Rattle.image.specs.Kinds.{free}
 use Rattle.image.specs.Types.{type_fields, type_field, type_of}
@@ -104,17 +105,28 @@ module _ {b : List ℕ} {n : ℕ} {places order : List ℕ} (E : Entries b n pla
       table_more : TableFrom D [] (T ++ (of t ∷ []))
       table_more = subst (λ X. TableFrom D [] X) grown (enter_one D T (of t) E.table P.bounded P.there).table
 
-      pub capacity : n < length order
-      capacity =
+      room : n < length (records_of b).types
+      room =
           let f = table_few (records_of b) laid_good D (T ++ (of t ∷ [])) table_more (subst (λ X. Every (From (records_of b) laid_good) X) (map_snoc (λ u. of u) (take n order) t) (all_from (take n order ++ (t ∷ [])) (below_snoc (length (records_of b).types) (take n order) t E.numbers h))) in
           let l = long in
-          let o = E.enough_order in
           omega (arith, length-append T (of t ∷ []))
+
+      pub few_types : n < type_limit
+      few_types =
+          let r = room in
+          let g = laid_good.few_types in
+          omega arith
+
+      capacity : n < length order
+      capacity =
+          let r = room in
+          let o = E.enough_order in
+          omega arith
 
       taken : take (n + 1) order' ≡ take n order ++ (t ∷ [])
       taken = let z : n + 1 ≡ suc n = omega arith in ap (λ m. take m order') z ∙ take-suc-set order n t capacity
 
-      pub one_more : entries_of b (n + 1) order' ≡ T ++ (of t ∷ [])
+      one_more : entries_of b (n + 1) order' ≡ T ++ (of t ∷ [])
       one_more = ap (λ xs. map (λ u. of u) xs) taken ∙ map_snoc (λ u. of u) (take n order) t
 
       pub one_entered : entries_of b (n + 1) order' ≡ enter T (of t)

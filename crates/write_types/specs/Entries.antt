@@ -1,13 +1,15 @@
--- A table of types (the crate image_written) as two lent tables of numbers hold it: the order of the types, by the numbers that they have in the image, and each type's place.
-use Rattle.std.specs.Prelude.{ℕ, ◌≤◌, ◌<◌, ◌≡◌, true, List, [], map, length, get_or, take, eqb}
+-- A table of types (the crate image_written) as two arrays of numbers hold it: the order of the types, by the numbers that they have in the image, and each type's place.
+use Rattle.std.specs.Prelude.{ℕ, ◌≤◌, ◌<◌, ◌≡◌, true, List, [], map, length, get_or, take, replicate, eqb}
 use Rattle.calculus.specs.Syntax.{Ty}
 use Rattle.calculus.specs.Combinators.{choose}
+use Rattle.image.specs.Limits.{type_limit}
 use Rattle.image.specs.Layout.{laid, layout, records_of}
 use Rattle.image.specs.Types.{type_of}
 use Rattle.image.proofs.Laid.{Below}
 use Rattle.image_written.specs.TypeParts.{parts_of}
 use Rattle.image_written.specs.Table.{place, has}
 use Rattle.image_written.proofs.Writable.{Bounded, PartsIn, TableFrom}
+use Rattle.write_types.specs.declared.TypeTable.{TypeTable}
 
 -- The place of a type that is not in the table.
 abbrev pub no_place : ℕ
@@ -20,7 +22,7 @@ place_in T t = choose (has T t) (place T t) no_place
 abbrev pub entries_of : List ℕ → ℕ → List ℕ → List Ty
 entries_of b n order = map (λ t. type_of (records_of b) t) (take n order)
 
--- The tables hold n types of the image b, each behind its parts.
+-- The arrays hold n types of the image b, each behind its parts.
 pub record Entries (b : List ℕ) (n : ℕ) (places order : List ℕ) : Type 0 where
   pub laid_out : layout b ≡ laid (records_of b)
   pub enough_places : length (records_of b).types ≤ length places
@@ -30,12 +32,22 @@ pub record Entries (b : List ℕ) (n : ℕ) (places order : List ℕ) : Type 0 w
   pub table : TableFrom (length (records_of b).domains) [] (entries_of b n order)
   pub each : (t : ℕ) → t < length (records_of b).types → get_or places t 0 ≡ place_in (entries_of b n order) (type_of (records_of b) t)
 
--- The parts of type t are among them, and it has as many as it may.
+-- Such a table, its types, and one that has none.
+abbrev pub TableOf : List ℕ → TypeTable → Type 0
+TableOf b T = Entries b T.count T.places T.order
+
+abbrev pub types_of : List ℕ → TypeTable → List Ty
+types_of b T = entries_of b T.count T.order
+
+abbrev pub empty_table : TypeTable
+empty_table = record { places = replicate type_limit no_place; order = replicate type_limit 0; count = 0 }
+
+-- The parts of type t are among the first n, and it has as many as it may.
 pub record PartsThere (b : List ℕ) (n : ℕ) (order : List ℕ) (t : ℕ) : Type 0 where
   pub there : PartsIn (length (records_of b).domains) (entries_of b n order) (parts_of (type_of (records_of b) t))
   pub bounded : Bounded (type_of (records_of b) t)
 
--- Each type of the image b that the table T has stands in it at the place that the lent table holds.
+-- Each type of the image b that the table T has stands in it at the place that the array holds.
 pub record Placed (b places : List ℕ) (T : List Ty) : Type 0 where
   pub each : (t : ℕ) → t < length (records_of b).types → has T (type_of (records_of b) t) ≡ true → get_or places t 0 ≡ place T (type_of (records_of b) t)
 

@@ -71,7 +71,7 @@ module _ {b ts ks : List ℕ} (T : Lent b ts ks) {n : ℕ} (l : IsTerm b n) wher
       ap (λ t. descriptor_domain (get_or ks t 0)) (type_in_lem T.terms l)
       ∙ descriptor_domain_lem L good (type_no L n) y (get_or ks (type_no L n) 0) (subst (λ i. Describes i (type_place L (type_no L n)) (get_or ks (type_no L n) 0)) (sym same) (T.types.descriptors (type_no L n) y))
 
-  pub watch_in : (high : Dom → Bool) → low_watch_in high q fs ks ≡ low_advice_or_lower L high n
+  watch_in : (high : Dom → Bool) → low_watch_in high q fs ks ≡ low_advice_or_lower L high n
   watch_in high =
       ap (λ d. choose (eqb q (term_row TermKind.adv).number) (not (high d)) (choose (eqb q (term_row TermKind.lower).number) (not (high (field_in fs 1))) false)) domain_in_lem
       ∙ (lower (eqb q (term_row TermKind.lower).number) refl
@@ -86,6 +86,10 @@ module _ {b ts ks : List ℕ} (T : Lent b ts ks) {n : ℕ} (l : IsTerm b n) wher
       lower false e = rw e refl
 
   -- The body of a low watch, in its fields and in the image.
+  -- The test of what has been read of the term.
+  pub watch_told : (high : Dom → Bool) {s : Bool} {k : ℕ} {gs : List ℕ} → s ≡ low_watch_in high k gs ks → k ≡ q → gs ≡ fs → s ≡ low_advice_or_lower L high n
+  watch_told high {gs = gs} e f g = e ∙ ap (λ j. low_watch_in high j gs ks) f ∙ ap (λ xs. low_watch_in high q xs ks) g ∙ watch_in high
+
   module _ (high : Dom → Bool) (low : low_advice_or_lower L high n ≡ true) where
     pub body_there : AtField b fs 2
     body_there =

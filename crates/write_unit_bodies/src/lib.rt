@@ -36,15 +36,11 @@ fn is_low_advice_or_lower(kind: u16, fields: &[u8], descriptors: &[u32], high: u
     requires { (1 < length fields.now) × (field_in fields.now 0 < length descriptors.now) × (kind ≡ (term_row TermKind.lower).number → 3 < length fields.now) }
     ensures { result ≡ low_watch_in (in_mask high) kind fields.now descriptors.now }
 {
-    if kind == kinds::ADVICE {
-        let advice = domain_of(own_descriptor(descriptors, fields));
-        return !in_mask(high, advice);
+    match kind {
+        kinds::ADVICE => !in_mask(high, domain_of(own_descriptor(descriptors, fields))),
+        kinds::LOWER => !in_mask(high, field_as(fields, DOMAIN)),
+        _ => false,
     }
-    if kind == kinds::LOWER {
-        let lower = field_as(fields, DOMAIN);
-        return !in_mask(high, lower);
-    }
-    false
 }
 
 // The body that these fields name becomes a unit.
@@ -54,18 +50,6 @@ fn put_unit_body(image: &[u8], terms: &[u16], fields: &[u8], copy: &mut [u8])
 {
     let at = term_place(image, terms, field_as(fields, BODY));
     copy[at + KIND] = UNIT_BYTE;
-}
-
-// All bytes, as they are.
-fn copy_bytes(image: &[u8], copy: &mut [u8])
-    requires { length copy.old ≡ length image.now }
-    ensures { copy.new ≡ image.now }
-{
-    let mut i: usize = 0;
-    while i < image.len() {
-        copy[i] = image[i];
-        i += 1;
-    }
 }
 
 // The copy, with a unit in the place of the body of each low watch among the first terms.
@@ -80,14 +64,12 @@ pub fn copy_with_unit_bodies(
     requires { Lent image.now terms.now descriptors.now × (count ≡ length (records_of image.now).terms) × (length copy.old ≡ length image.now) }
     ensures { UnitBodies (records_of image.now) (in_mask high) count image.now copy.new }
 {
-    copy_bytes(image, copy);
-    let mut i: usize = 0;
-    while i < count {
+    copy.copy_from_slice(image);
+    for i in 0..count {
         let n = TermNo(i as u16);
         let fields = term_fields(image, terms, n);
         if is_low_advice_or_lower(term_kind(image, terms, n), fields, descriptors, high) {
             put_unit_body(image, terms, fields, copy);
         }
-        i += 1;
     }
 }

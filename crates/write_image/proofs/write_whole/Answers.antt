@@ -1,7 +1,7 @@
 -- `write_image::write_whole` meets its contract.
 use Prim.Native.Nat.{ℕ, ◌+◌, ◌-◌}
 use native.Mathlib.Omega.{arith}
-use mathlib.Core.Path.{◌≡◌, refl, ap, subst, ◌∙◌}
+use mathlib.Core.Path.{◌≡◌, refl, sym, ap, subst, ◌∙◌}
 use mathlib.Core.List.{List, []}
 use lib.ListN.{length}
 use Rattle.image.specs.Layout.{records_of}
@@ -13,7 +13,7 @@ use Rattle.image_written.specs.Table.{entered, types_in, table_of}
 use Rattle.image_written.proofs.Sums.{weight}
 use Rattle.image_written.proofs.Sizes.{term_size}
 use Rattle.image_written.proofs.Fronts.{tree_at}
-use Rattle.write_types.specs.Entries.{entries_of, Placed}
+use Rattle.write_types.specs.Entries.{TableOf, entries_of, types_of, Placed}
 use Rattle.write_types.proofs.Entering.{entries_placed}
 use Rattle.write_sections.specs.Sections.{domain_bytes, type_bytes}
 use Rattle.write_program.specs.Writing.{Wrote}
@@ -29,14 +29,14 @@ root_of-root-requires c =
     let f = (few b A m).1 in
     (omega arith, omega arith)
 
-pub enter_term-n-requires : goal.enter_term-n-requires
-enter_term-n-requires c =
+pub enter_term-requires : goal.enter_term-requires
+enter_term-requires c =
     let b : List ℕ = c.args.image.now in
     let A = c.requires.3.laid_out in
     let m = c.requires.5.has_terms in
     let k = c.requires.4.terms in
     let r : c.root_of-root.result.0 ≡ root_of (records_of b) = c.root_of-root.ensures ∙ ap (λ q. q - 1) k in
-    (c.requires.0, c.requires.2, c.requires.3, no_entries b A m _ _ refl refl, omega arith)
+    (c.requires.0, c.requires.2, c.requires.3, subst (λ T. TableOf b T) (sym c.empty-table.ensures) (no_entries b A m _ _ refl refl), omega arith)
 
 pub keep_domains-behind_domains-requires : goal.keep_domains-behind_domains-requires
 keep_domains-behind_domains-requires c =
@@ -53,8 +53,8 @@ write_types-behind_types-requires c =
     let m = c.requires.5.has_terms in
     let k = c.requires.4.terms in
     let r : c.root_of-root.result.0 ≡ root_of (records_of b) = c.root_of-root.ensures ∙ ap (λ q. q - 1) k in
-    let N = c.enter_term-n in
-    let E : entries_of b N.result c.enter_term-n.new.order ≡ table_of (program (records_of b)) = all_entries b A m N.result c.enter_term-n.new.order (N.ensures.1 ∙ ap (λ j. entered [] (types_in (tree_at (records_of b) j))) r) in
+    let N = c.enter_term in
+    let E : entries_of b N.new.table.count c.enter_term.new.table.order ≡ table_of (program (records_of b)) = all_entries b A m N.new.table.count c.enter_term.new.table.order (N.ensures.1 ∙ ap (λ T. entered (types_of b T) (types_in (tree_at (records_of b) c.root_of-root.result.0))) c.empty-table.ensures ∙ ap (λ j. entered [] (types_in (tree_at (records_of b) j))) r) in
     let w = c.keep_domains-behind_domains in
     let d = c.keep_domains-behind_domains.ensures.0 in
     let o = c.keep_domains-behind_domains.auto.out in
@@ -62,15 +62,15 @@ write_types-behind_types-requires c =
     let t = types_fit b A m (length c.args.out.now) c.requires.5.capacity in
     (c.requires.0, c.requires.2, N.ensures.0, omega arith)
 
-pub write_term-done-requires : goal.write_term-done-requires
-write_term-done-requires c =
+pub write_term-requires : goal.write_term-requires
+write_term-requires c =
     let b : List ℕ = c.args.image.now in
     let A = c.requires.3.laid_out in
     let m = c.requires.5.has_terms in
     let k = c.requires.4.terms in
     let r : c.root_of-root.result.0 ≡ root_of (records_of b) = c.root_of-root.ensures ∙ ap (λ q. q - 1) k in
-    let N = c.enter_term-n in
-    let E : entries_of b N.result c.enter_term-n.new.order ≡ table_of (program (records_of b)) = all_entries b A m N.result c.enter_term-n.new.order (N.ensures.1 ∙ ap (λ j. entered [] (types_in (tree_at (records_of b) j))) r) in
+    let N = c.enter_term in
+    let E : entries_of b N.new.table.count c.enter_term.new.table.order ≡ table_of (program (records_of b)) = all_entries b A m N.new.table.count c.enter_term.new.table.order (N.ensures.1 ∙ ap (λ T. entered (types_of b T) (types_in (tree_at (records_of b) c.root_of-root.result.0))) c.empty-table.ensures ∙ ap (λ j. entered [] (types_in (tree_at (records_of b) j))) r) in
     let w = c.keep_domains-behind_domains in
     let v = c.write_types-behind_types in
     let d = c.keep_domains-behind_domains.ensures.0 in
@@ -87,16 +87,16 @@ returns c =
     let m = c.requires.5.has_terms in
     let k = c.requires.4.terms in
     let r : c.root_of-root.result.0 ≡ root_of (records_of b) = c.root_of-root.ensures ∙ ap (λ q. q - 1) k in
-    let N = c.enter_term-n in
-    let E : entries_of b N.result c.enter_term-n.new.order ≡ table_of (program (records_of b)) = all_entries b A m N.result c.enter_term-n.new.order (N.ensures.1 ∙ ap (λ j. entered [] (types_in (tree_at (records_of b) j))) r) in
+    let N = c.enter_term in
+    let E : entries_of b N.new.table.count c.enter_term.new.table.order ≡ table_of (program (records_of b)) = all_entries b A m N.new.table.count c.enter_term.new.table.order (N.ensures.1 ∙ ap (λ T. entered (types_of b T) (types_in (tree_at (records_of b) c.root_of-root.result.0))) c.empty-table.ensures ∙ ap (λ j. entered [] (types_in (tree_at (records_of b) j))) r) in
     let w = c.keep_domains-behind_domains in
     let v = c.write_types-behind_types in
-    let u = c.write_term-done in
+    let u = c.write_term in
     let d = c.keep_domains-behind_domains.ensures.0 in
     let l = ap (λ X. length (type_bytes X)) E in
     let e = c.write_types-behind_types.ensures.0 in
-    let g = v.ensures.1 ∙ ap (λ q. over q (type_bytes (entries_of b N.result c.enter_term-n.new.order)) c.keep_domains-behind_domains.new.out) d ∙ ap (λ X. over (length (domain_bytes (masks (records_of b)))) (type_bytes X) c.keep_domains-behind_domains.new.out) E in
-    let P = subst (λ X. Placed b c.enter_term-n.new.places X) E (entries_placed N.ensures.0) in
-    let W = subst (λ j. Wrote b c.enter_term-n.new.places j (record { at = v.result; terms = 0 }) c.write_types-behind_types.new.out c.write_term-done.new.out) r u.ensures.2 in
+    let g = v.ensures.1 ∙ ap (λ q. over q (type_bytes (entries_of b N.new.table.count c.enter_term.new.table.order)) c.keep_domains-behind_domains.new.out) d ∙ ap (λ X. over (length (domain_bytes (masks (records_of b)))) (type_bytes X) c.keep_domains-behind_domains.new.out) E in
+    let P = subst (λ X. Placed b c.enter_term.new.table.places X) E (entries_placed N.ensures.0) in
+    let W = subst (λ j. Wrote b c.enter_term.new.table.places j (record { at = v.result; terms = 0 }) c.write_types-behind_types.new.out c.write_term.new.out) r u.ensures.2 in
     let z = whole b A m c.args.out.now (record { at = v.result; terms = 0 }) c.requires.5.capacity P (omega arith) refl w.ensures.1 g W in
     (u.ensures.0 ∙ ap (λ j. v.result + weight term_size (tree_at (records_of b) j)) r ∙ z.0, z.1)

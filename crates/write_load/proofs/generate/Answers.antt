@@ -5,12 +5,15 @@ use mathlib.Core.Path.{refl, ◌∙◌}
 use Rattle.image_written.proofs.Load.{few}
 use Rattle.write_load.proofs.Whole.{head_length, whole_image, loaded_none, loaded_deep, loaded_short, loaded_written}
 use Rattle.write_load.proofs.generate.Goals as goal
+use Rattle.write_load.proofs.generate.Goals.{then-depth-eq0-via-then-depth-eq0, then-depth-eq0-via-else-depth-eq0+then-depth-gt-DEPTH_LIMIT}
 
 pub returns-then-depth-eq0 : goal.returns-then-depth-eq0
-returns-then-depth-eq0 c = let a = c.args in loaded_none a.seed a.depth a.out.now c.if-depth-eq0.true
-
-pub returns-then-depth-gt-DEPTH_LIMIT : goal.returns-then-depth-gt-DEPTH_LIMIT
-returns-then-depth-gt-DEPTH_LIMIT c = let a = c.args in loaded_deep a.seed a.depth a.out.now c.if-depth-gt-DEPTH_LIMIT.true
+returns-then-depth-eq0 c =
+    let a = c.args in
+    elim c.then-depth-eq0.branch [
+      | then-depth-eq0-via-then-depth-eq0 w ↦ loaded_none a.seed a.depth a.out.now w.if-depth-eq0.true
+      | then-depth-eq0-via-else-depth-eq0+then-depth-gt-DEPTH_LIMIT w ↦ loaded_deep a.seed a.depth a.out.now w.if-depth-gt-DEPTH_LIMIT.true
+    ]
 
 pub returns-then-out-lt-OUTPUT_LENGTH : goal.returns-then-out-lt-OUTPUT_LENGTH
 returns-then-out-lt-OUTPUT_LENGTH c =
@@ -24,8 +27,8 @@ put_head-behind_head-requires c =
     let o = c.if-out-lt-OUTPUT_LENGTH.false in
     omega arith
 
-pub grow-end-requires : goal.grow-end-requires
-grow-end-requires c =
+pub grow-requires : goal.grow-requires
+grow-requires c =
     let a = c.args in
     let l = c.if-depth-gt-DEPTH_LIMIT.false in
     let m = few (a.depth - 1) (omega arith) in
@@ -40,5 +43,5 @@ returns c =
     let z = c.if-depth-eq0.false in
     let l = c.if-depth-gt-DEPTH_LIMIT.false in
     let o = c.if-out-lt-OUTPUT_LENGTH.false in
-    let w = whole_image a.depth a.seed a.out.now c.put_head-behind_head.ensures.0 refl refl o l c.put_head-behind_head.ensures.1 c.grow-end.ensures in
+    let w = whole_image a.depth a.seed a.out.now c.put_head-behind_head.ensures.0 refl refl o l c.put_head-behind_head.ensures.1 c.grow.ensures in
     loaded_written a.seed a.depth a.out.now (omega arith) l o w.0 w.1

@@ -16,7 +16,7 @@ write_domains-behind_domain-requires c =
     let n = head_length in
     let d = domain_length in
     let p = c.requires in
-    (search rules, search rules, omega arith)
+    omega arith
 
 pub put_record-behind_unit-requires : goal.put_record-behind_unit-requires
 put_record-behind_unit-requires c =
@@ -25,7 +25,7 @@ put_record-behind_unit-requires c =
     let e : w.result ≡ 6 = w.ensures.0 ∙ domain_length in
     let k = c.write_domains-behind_domain.auto.out in
     let p = c.requires in
-    (search rules, search rules, omega arith)
+    (search rules, omega arith)
 
 pub put_record-requires : goal.put_record-requires
 put_record-requires c =
@@ -37,7 +37,7 @@ put_record-requires c =
     let k = c.write_domains-behind_domain.auto.out in
     let l = c.put_record-behind_unit.auto.out in
     let p = c.requires in
-    (search rules, search rules, omega arith)
+    (search rules, omega arith)
 
 pub returns : goal.returns
 returns c =

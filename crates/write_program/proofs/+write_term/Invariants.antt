@@ -1,5 +1,5 @@
 -- `write_program::write_term` meets its contract.
-use Prim.Native.Nat.{ℕ, ◌-◌, ◌≤◌}
+use Prim.Native.Nat.{ℕ}
 use mathlib.Core.Path.{◌≡◌}
 use lib.ListN.{length}
 use Rattle.image.specs.Layout.{records_of}
@@ -17,9 +17,6 @@ decreases-write_term l = l.e.0
 -- The loop keeps the fields, and not the term's number: what it claims holds of every term that they are the fields of.
 abbrev pub invariant-loop-i : goal.invariant-loop-i
 invariant-loop-i l =
-    (l.i ≤ l.known.count) × (length l.out ≡ length l.initial.out) × (length l.numbers ≡ field_limit)
+    (length l.numbers ≡ field_limit)
     × ((e : ℕ) → IsTerm l.image e → Capacity l.image e l.initial.d (length l.initial.out) → RecordRead l.fields l.known.code l.known.count (sorts_at (records_of l.image) e) (numbers_of (records_of l.image) e)
-    → Come l.image e l.i l.initial.d l.d × Begun l.image l.places e l.initial.d l.i l.initial.out l.out l.numbers)
-
-abbrev pub decreases-loop-i : goal.decreases-loop-i
-decreases-loop-i l = l.known.count - l.i
+    → Come l.image e l.i l.initial.d l.d × Begun l.image l.table.places e l.initial.d l.i l.initial.out l.out l.numbers)

@@ -1,13 +1,9 @@
 -- `write_records::put_numbers` meets its contract.
-use Prim.Native.Nat.{◌-◌, ◌≤◌}
 use mathlib.Core.Path.{◌≡◌}
-use lib.ListN.{length, take}
+use lib.ListN.{take}
 use Rattle.base_bytes.specs.Bytes.{over}
 use Rattle.image_written.specs.Records.{little}
 use Rattle.write_records.proofs.put_numbers.Given as goal
 
 abbrev pub invariant-loop-i : goal.invariant-loop-i
-invariant-loop-i l = (l.i ≤ l.count) × (length l.out ≡ length l.initial.out) × (l.out ≡ over l.at (little (take l.i l.numbers)) l.initial.out)
-
-abbrev pub decreases-loop-i : goal.decreases-loop-i
-decreases-loop-i l = l.count - l.i
+invariant-loop-i l = l.out ≡ over l.at (little (take l.i l.numbers)) l.initial.out

@@ -1,5 +1,5 @@
 -- `write_sections::write_type` meets its contract.
-use Prim.Native.Nat.{ℕ, ◌-◌, ◌≤◌}
+use Prim.Native.Nat.{ℕ}
 use mathlib.Core.Path.{◌≡◌}
 use lib.ListN.{length}
 use Rattle.image.specs.Layout.{records_of}
@@ -14,8 +14,5 @@ use Rattle.write_sections.proofs.write_type.Given as goal
 -- The loop keeps the fields, and not the type's number: what it claims holds of every type that they are the fields of.
 abbrev pub invariant-loop-i : goal.invariant-loop-i
 invariant-loop-i l =
-    (l.i ≤ l.known.count) × (length l.numbers ≡ field_limit)
-    × ((t : ℕ) → IsType l.image t → RecordRead l.fields l.known.code l.known.count (sorts_at l.image t) (type_fields (records_of l.image) t) → Numbered l.image l.places t l.i l.numbers)
-
-abbrev pub decreases-loop-i : goal.decreases-loop-i
-decreases-loop-i l = l.known.count - l.i
+    (length l.numbers ≡ field_limit)
+    × ((t : ℕ) → IsType l.image t → RecordRead l.fields l.known.code l.known.count (sorts_at l.image t) (type_fields (records_of l.image) t) → Numbered l.image l.table.places t l.i l.numbers)

@@ -1,5 +1,0 @@
--- `write_load::put_print` meets its contract.
-use Rattle.write_load.proofs.put_print.Goals as goal
-
-pub returns : goal.returns
-returns c = rw c.last_term-last.ensures at c.put_term.ensures
