@@ -1,5 +1,5 @@
 -- What each function of the library answers as one number.
-use Rattle.std.specs.Prelude.{ℕ, ◌≡◌, List}
+use Rattle.std.specs.Prelude.{ℕ, ◌≡◌, List, Result}
 use Rattle.verdict.specs.Answers.{Verdict}
 use Rattle.validator.specs.Numbers.{verdict_number, verdict_place}
 use Rattle.image_needs.specs.declared.Forecast.{Forecast}
