@@ -3,7 +3,6 @@ use Rattle.std.specs.Prelude.{ℕ, ◌-◌, ◌≤◌, ◌≡◌, List, [], ◌�
 use Rattle.image.specs.Limits.{work_length, report_length}
 use Rattle.image.specs.Layout.{records_of}
 use Rattle.image.specs.Program.{program}
-use Rattle.verdict.specs.Answers.{Verdict}
 use Rattle.verdict.specs.Domains.{masks}
 use Rattle.verdict.specs.Verdicts.{verdict}
 use Rattle.image_written.specs.Generated.{grow, load_length, generated}
