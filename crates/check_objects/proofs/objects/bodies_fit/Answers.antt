@@ -13,17 +13,6 @@ use Rattle.check_rules.proofs.Methods.{fit_more, fit_fails, fit_ends}
 use Rattle.check_rules.proofs.OnDescriptors.{types_length, body_at}
 use Rattle.check_objects.proofs.objects.bodies_fit.Goals as goal
 
-pub type_at_field-body-requires : goal.type_at_field-body-requires
-type_at_field-body-requires c =
-    let k = c.bodies_in-i-end.ensures in
-    (c.requires.1, c.requires.3.each c.loop-i.i (omega arith))
-
-pub method_type-requires : goal.method_type-requires
-method_type-requires c =
-    let k = c.bodies_in-i-end.ensures in
-    let m = c.requires.4 in
-    (c.requires.0, c.requires.2, omega arith)
-
 pub loop-i-preserved : goal.loop-i-preserved
 loop-i-preserved c =
     let a = c.args in

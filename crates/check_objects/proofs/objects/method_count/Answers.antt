@@ -12,6 +12,3 @@ pub returns : goal.returns
 returns c =
     let e : length c.type_fields.result.now ≡ 4 * method_count (records_of c.args.image.now) c.args.t.0 = ap length c.type_fields.ensures ∙ method_bytes c.requires.0 c.args.t.0 c.requires.1 in
     omega arith
-
-pub type_fields-requires : goal.type_fields-requires
-type_fields-requires c = (c.requires.0, c.requires.1.there)

@@ -31,6 +31,3 @@ pub returns : goal.returns
 returns c =
     let m = c.requires.2 in
     c.field_as.ensures ∙ (ap (λ fs. field_in fs (2 * c.args.m + 1)) c.type_fields.ensures ∙ method_field c.requires.0 c.args.t.0 c.requires.1 (2 * c.args.m + 1) (omega arith))
-
-pub type_fields-requires : goal.type_fields-requires
-type_fields-requires c = (c.requires.0, c.requires.1.there)

@@ -1,6 +1,5 @@
 -- `check_objects::stacks::entries_fit` meets its contract: so far each entry fits, and those that are left decide.
 use borrow.Author.Rules.{rules}
-use native.Mathlib.Omega.{arith}
 use mathlib.Core.Path.{◌≡◌, sym, ap, ◌∙◌}
 use Prim.Native.Nat.{ℕ, ◌+◌, ◌<◌}
 use mathlib.Core.List.{List}
@@ -22,13 +21,6 @@ entry_decides : (ok : ℕ → Bool) (fs : List ℕ) (n i v : ℕ) (r : Bool) →
 entry_decides ok fs n i v r h e q =
     ap (λ es. all_of ok es) (next_left fs first_entry n i v h e)
     ∙ (each_append ok (as_child an_entry v) (entries_left fs first_entry n (i + 1)) ∙ ap (λ x. x && all_of ok (entries_left fs first_entry n (i + 1))) (sym q))
-
-pub entry_fits-requires : goal.entry_fits-requires
-entry_fits-requires c =
-    let l = c.loop-i in
-    let k = c.entries_in-i-end.ensures in
-    let h = c.requires.1.each l.i (omega arith) in
-    (c.requires.0, omega (arith, c.field-entry.ensures))
 
 pub returns-then-not-entry_fits : goal.returns-then-not-entry_fits
 returns-then-not-entry_fits c =

@@ -1,5 +1,4 @@
 -- `check_objects::stacks::entry_fits` meets its contract.
-use native.Mathlib.Omega.{arith}
 use mathlib.Core.Path.{refl, sym}
 use mathlib.Core.Bool.{and-true}
 use Rattle.laws.specs.Tests.{all_of}
@@ -8,10 +7,6 @@ use Rattle.check_objects.proofs.stacks.entry_fits.Goals as goal
 pub returns-then-entry-eq0 : goal.returns-then-entry-eq0
 unfolding all_of
 returns-then-entry-eq0 c = rw c.if-entry-eq0.true refl
-
-pub stated_type-requires : goal.stated_type-requires
-stated_type-requires c =
-    (c.requires.0.terms, let e = c.entry_term.ensures in let h = c.requires.1 in omega arith)
 
 pub returns-else-entry-eq0 : goal.returns-else-entry-eq0
 unfolding all_of
