@@ -1,9 +1,8 @@
 -- What lent numbers hold after a forecast (document 02, card 10).
-use Rattle.std.specs.Prelude.{ℕ, cond, ◌&&◌, List, [], ◌∷◌, length, eqb, ltb}
+use Rattle.std.specs.Prelude.{ℕ, cond, ◌&&◌, List, [], ◌∷◌, Ok, Err, length, eqb, ltb}
 use Rattle.base_bytes.specs.Bytes.{over}
 use Rattle.image_needs.specs.declared.Needs.{Needs}
-use Rattle.image_needs.specs.declared.Forecast.{Forecast}
-use Rattle.image_needs.specs.Forecasts.{forecast_number}
+use Rattle.image_needs.specs.Forecasts.{Forecast, forecast_number}
 
 -- The eleven numbers, in the order of the declaration.
 abbrev pub numbers_of : Needs → List ℕ
@@ -26,9 +25,8 @@ number_count = 11
 
 -- If the forecast has numbers and at least eleven places are lent, the numbers stand in the first eleven; else nothing is written.
 abbrev pub numbers_left : Forecast → List ℕ → List ℕ
-numbers_left (Forecast.Refused r place) xs = xs
-numbers_left (Forecast.OutsideClass place) xs = xs
-numbers_left (Forecast.Known n) xs = cond (ltb (length xs) number_count) xs (over 0 (numbers_of n) xs)
+numbers_left (Err u) xs = xs
+numbers_left (Ok n) xs = cond (ltb (length xs) number_count) xs (over 0 (numbers_of n) xs)
 
 -- The number that is answered, given how many places are lent: the number of the forecast; or, where its numbers are known and fewer than eleven places are lent, the first number behind those of documents 01 and 02.
 abbrev pub too_few_places : ℕ

@@ -30,13 +30,8 @@ fn put_numbers(numbers: &mut [u32], n: Needs)
 pub fn put_forecast(numbers: &mut [u32], f: Forecast)
     ensures { numbers.new ≡ numbers_left f numbers.old }
 {
-    match f {
-        Forecast::Refused(_, _) => {}
-        Forecast::OutsideClass(_) => {}
-        Forecast::Known(known) => {
-            if numbers.len() < NUMBERS {
-                return;
-            }
+    if let Ok(known) = f {
+        if NUMBERS <= numbers.len() {
             put_numbers(numbers, known);
         }
     }
@@ -50,10 +45,9 @@ pub fn need_number(f: Forecast, places: usize) -> u16
     ensures { result ≡ need_number f places }
 {
     let n = image_needs::forecast_number(f);
-    if n == 0 {
-        if places < NUMBERS {
-            return TOO_FEW_PLACES;
-        }
+    if n == 0 && places < NUMBERS {
+        TOO_FEW_PLACES
+    } else {
+        n
     }
-    n
 }

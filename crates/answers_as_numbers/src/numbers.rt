@@ -39,9 +39,7 @@ pub fn call_number(a: Answer) -> u64
 {
     let verdict = a.verdict;
     match verdict {
-        Ok(()) => {
-            (a.report % BYTE_COUNT) as u64 + LOG_UNIT * ((a.log % LOG_COUNT) as u64)
-        }
+        Ok(()) => { (a.report % BYTE_COUNT) as u64 + LOG_UNIT * ((a.log % LOG_COUNT) as u64) }
         Err(refused) => refused_as_number(
             image_refusals::refusal_number(refused.why),
             refused.place,

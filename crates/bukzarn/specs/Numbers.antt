@@ -2,8 +2,7 @@
 use Rattle.std.specs.Prelude.{ℕ, ◌≡◌, List, Result}
 use Rattle.verdict.specs.Answers.{Verdict}
 use Rattle.validator.specs.Numbers.{verdict_number, verdict_place}
-use Rattle.image_needs.specs.declared.Forecast.{Forecast}
-use Rattle.image_needs.specs.Forecasts.{forecast_place}
+use Rattle.image_needs.specs.Forecasts.{Forecast, forecast_place}
 use Rattle.call_spec.specs.Calls.{Left}
 use Rattle.write_fixed.specs.declared.Written.{Written}
 use Rattle.write_fixed.specs.Calls.{written_number, written_place, written_bytes}

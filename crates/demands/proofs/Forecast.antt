@@ -6,6 +6,7 @@ use mathlib.Core.Logic.{◌⊎◌, inl, inr}
 use mathlib.Core.Bool.{true}
 use mathlib.Core.List.{List}
 use mathlib.Core.Option.{some, some-injective}
+use Rattle.std.proofs.Common.{Ok, Err}
 use lib.ListN.{length, length-map}
 use lib.Dec.{T}
 use Rattle.calculus.specs.declared.Outcome.{Outcome}
@@ -23,7 +24,7 @@ use Rattle.calculus_needs.proofs.Theorem.{never_exceeded, met_exactly, done_or_a
 use Rattle.image.specs.Layout.{records_of}
 use Rattle.image.specs.Program.{to_tm}
 use Rattle.image_needs.specs.Forecasts.{needs_of}
-use Rattle.image_needs.specs.declared.Forecast.{Forecast}
+use Rattle.image_needs.specs.declared.Unforeseen.{Unforeseen}
 use Rattle.image_needs.proofs.Known.{Known, Outside, known, outside, known_back, outside_back, refused_first}
 use Rattle.verdict.specs.Domains.{policy}
 use Rattle.report.specs.Read.{read_log, read_report}
@@ -122,10 +123,10 @@ card10_refused b =
       refused = refused_first b;
       outside = λ place. (
         λ h. let o : Outside b place = outside b place h in (o.accepted, o.class, sym o.place_is),
-        λ h. outside_back b h.0 h.1 ∙ ap Forecast.OutsideClass (sym h.2),
+        λ h. outside_back b h.0 h.1 ∙ ap (λ o. Err (Unforeseen.OutsideClass o)) (sym h.2),
       );
       inside = λ n. (
         λ h. let k : Known b n = known b n h in (k.accepted, k.class, sym k.numbers),
-        λ h. known_back b h.0 h.1 ∙ ap Forecast.Known (sym h.2),
+        λ h. known_back b h.0 h.1 ∙ ap Ok (sym h.2),
       );
     }

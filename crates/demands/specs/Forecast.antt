@@ -1,6 +1,6 @@
 -- Card 10 of document 02 about whole calls: "No run of that image exceeds any of them. A done run without choice, mark or takedown meets each exactly. Where all are within the limits, the budget and the log, the outcome is done or aborted."
 -- Steps, cells and log records are read from the bytes that a call leaves. The other numbers stand neither in log nor in report, so they are said of the run that the call makes, at its end and at every moment before it.
-use Rattle.std.specs.Prelude.{ℕ, ◌+◌, ◌≤◌, ◌<◌, ◌≡◌, ◌⊎◌, ◌↔◌, true, List, length, T, Ok}
+use Rattle.std.specs.Prelude.{ℕ, ◌+◌, ◌≤◌, ◌<◌, ◌≡◌, ◌⊎◌, ◌↔◌, true, List, Ok, Err, length, T}
 use Rattle.calculus.specs.declared.Outcome.{Outcome}
 use Rattle.calculus.specs.Limits.{word_size}
 use Rattle.calculus.specs.Report.{outcome_number}
@@ -17,7 +17,7 @@ use Rattle.image.specs.Program.{to_tm}
 use Rattle.verdict.specs.Answers.{Verdict, refused_at}
 use Rattle.verdict.specs.Verdicts.{verdict}
 use Rattle.image_needs.specs.declared.Needs.{Needs}
-use Rattle.image_needs.specs.declared.Forecast.{Forecast}
+use Rattle.image_needs.specs.declared.Unforeseen.{Unforeseen}
 use Rattle.image_needs.specs.Faults.{lowest_fault}
 use Rattle.image_needs.specs.Forecasts.{needs_of, forecast}
 use Rattle.report.specs.Read.{read_log, read_report}
@@ -70,7 +70,7 @@ pub record Holds (b : List ℕ) (n : Needs) (frame : List ℕ) (budget : ℕ) (l
 
 abbrev pub Card10 : Type 0
 Card10 =
-    (b : List ℕ) (n : Needs) → forecast b ≡ Forecast.Known n
+    (b : List ℕ) (n : Needs) → forecast b ≡ Ok n
     → (frame : List ℕ) (budget : ℕ) (log report work : List ℕ) → Runs b report work → Holds b n frame budget log (called b frame budget log report work)
 
 -- The class: "images with no apply and no call, whose installs each stand directly over an advice, and whose advice bodies contain no mark and no install".
@@ -83,6 +83,6 @@ check_of b = verdict b work_length report_length
 
 -- "19 the image is outside this class, after the check's refusals; the place is the offset of the lowest apply, call, install over something else, or mark or install in an advice body."
 pub record Card10Refused (b : List ℕ) : Type 0 where
-  pub refused : (r : Refusal) (place : ℕ) → check_of b ≡ refused_at r place → forecast b ≡ Forecast.Refused r place
-  pub outside : (place : ℕ) → forecast b ≡ Forecast.OutsideClass place ↔ (check_of b ≡ Ok tt) × (InClass b → ⊥) × (place ≡ term_place (records_of b) (lowest_fault (records_of b)))
-  pub inside : (n : Needs) → forecast b ≡ Forecast.Known n ↔ (check_of b ≡ Ok tt) × InClass b × (n ≡ needs_of (need_of (to_tm (program_of b))))
+  pub refused : (r : Refusal) (place : ℕ) → check_of b ≡ refused_at r place → forecast b ≡ Err (Unforeseen.Refused (record { why = r; place = place }))
+  pub outside : (place : ℕ) → forecast b ≡ Err (Unforeseen.OutsideClass place) ↔ (check_of b ≡ Ok tt) × (InClass b → ⊥) × (place ≡ term_place (records_of b) (lowest_fault (records_of b)))
+  pub inside : (n : Needs) → forecast b ≡ Ok n ↔ (check_of b ≡ Ok tt) × InClass b × (n ≡ needs_of (need_of (to_tm (program_of b))))

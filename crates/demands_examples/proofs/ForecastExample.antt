@@ -29,7 +29,7 @@ use Rattle.verdict.proofs.Images.{little, rec, image, one_domain, two_domains, u
 use Rattle.base_bytes.specs.Bytes.{bytes_of, number_of, number_at, over, cleared}
 use Rattle.report.specs.Records.{records_bytes}
 use Rattle.image_needs.specs.declared.Needs.{Needs}
-use Rattle.image_needs.specs.declared.Forecast.{Forecast}
+use Rattle.std.proofs.Common.{Ok}
 use Rattle.image_needs.specs.Faults.{least, lowest, lowest_fault}
 use Rattle.image_needs.specs.Forecasts.{forecast}
 use Rattle.call_spec.specs.Calls.{Left, called}
@@ -62,7 +62,7 @@ needed = record {
   log = 1;
 }
 
-forecast_is : forecast one_way_image ≡ Forecast.Known needed
+forecast_is : forecast one_way_image ≡ Ok needed
 unfolding one_way_image forecast lowest_fault lowest least need rounds ◌⊕◌ dearer
     verdict in_turn require_from walk layout records_of tests find words all_within all all_of any_below first_fault shape at_fault leq order bits count uses depths depths_from typing check check_all type_of type_from type_out
     little rec image one_domain two_domains unit number literal

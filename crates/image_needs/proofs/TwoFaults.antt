@@ -2,6 +2,7 @@
 use Prim.Native.Nat.{ℕ}
 use mathlib.Core.Path.{◌≡◌, refl}
 use mathlib.Core.List.{List, [], ◌∷◌}
+use Rattle.std.proofs.Common.{Result, Ok, Err}
 use Rattle.laws.specs.Tests.{all, all_of, any_below, first_fault}
 use Rattle.image.specs.Bytes.{words}
 use Rattle.image.specs.Kinds.{find}
@@ -14,7 +15,7 @@ use Rattle.verdict.specs.Shape.{count, uses, depths_from, depths, shape}
 use Rattle.verdict.specs.Check.{check_all, check, typing}
 use Rattle.verdict.specs.Verdicts.{verdict}
 use Rattle.verdict.proofs.Images.{little, rec, image, one_domain, unit}
-use Rattle.image_needs.specs.declared.Forecast.{Forecast}
+use Rattle.image_needs.specs.declared.Unforeseen.{Unforeseen}
 use Rattle.image_needs.specs.Faults.{least, lowest, lowest_fault}
 use Rattle.image_needs.specs.Forecasts.{forecast}
 
@@ -23,7 +24,7 @@ applied_twice =
     image
     (one_domain ∷ unit ∷ rec 20 (0 ∷ 0 ∷ 0 ∷ []) ∷ rec 32 (0 ∷ []) ∷ rec 41 (1 ∷ 0 ∷ []) ∷ rec 32 (0 ∷ []) ∷ rec 42 (0 ∷ 1 ∷ 2 ∷ []) ∷ rec 32 (0 ∷ []) ∷ rec 41 (1 ∷ 4 ∷ []) ∷ rec 42 (0 ∷ 5 ∷ 3 ∷ []) ∷ [])
 
-pub lowest_of_two : forecast applied_twice ≡ Forecast.OutsideClass 40
+pub lowest_of_two : forecast applied_twice ≡ Err (Unforeseen.OutsideClass 40)
 unfolding applied_twice forecast lowest_fault lowest least
     verdict in_turn require_from walk layout records_of tests find words all_within all all_of any_below first_fault shape at_fault leq order bits count uses depths depths_from typing check check_all type_of type_from type_out
     little rec image one_domain unit

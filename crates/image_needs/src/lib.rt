@@ -1,11 +1,12 @@
 // What a run of an image will need (document 02, card 10): its definition in specs/, its laws in proofs/; and here the numbers
-// and the enum that answer it.
+// and the refusals that answer it.
 #![tactic(auto)]
 
 ghost use Rattle.std.specs.Prelude.{◌≡◌};
+ghost use Rattle.image_needs.specs.declared.Unforeseen.{Unforeseen};
 ghost use Rattle.image_needs.specs.Forecasts.{forecast_number, forecast_place};
 
-use image::Refusal;
+use image::Refused;
 
 // The number of the refusal of images that are outside the class (document 02, card 10).
 pub const OUTSIDE_NUMBER: u16 = 19;
@@ -27,23 +28,32 @@ pub struct Needs {
     pub log: u32,
 }
 
-// The forecast of an image before a launch: the check refuses it; or it is outside the class, with the place of its lowest fault;
-// or its run needs no more than these numbers.
+// Why an image has no numbers: the check refuses it; or it is outside the class, with the place of its lowest fault.
 #[derive(Clone, Copy)]
-pub enum Forecast {
-    Refused(Refusal, usize),
+pub enum Unforeseen {
+    Refused(Refused),
     OutsideClass(usize),
-    Known(Needs),
 }
+
+impl From<Refused> for Unforeseen {
+    ghost from_gives = { λ refused u. u ≡ Unforeseen.Refused refused };
+
+    fn from(refused: Refused) -> Self {
+        Self::Refused(refused)
+    }
+}
+
+// The forecast of an image before a launch: its run needs no more than these numbers.
+pub type Forecast = Result<Needs, Unforeseen>;
 
 // Its number, 0 for numbers that are known, and its place.
 pub fn forecast_number(f: Forecast) -> u16
     ensures { result ≡ forecast_number f }
 {
     match f {
-        Forecast::Refused(why, _) => image_refusals::refusal_number(why),
-        Forecast::OutsideClass(_) => OUTSIDE_NUMBER,
-        Forecast::Known(_) => 0,
+        Ok(_) => 0,
+        Err(Unforeseen::Refused(refused)) => image_refusals::refusal_number(refused.why),
+        Err(Unforeseen::OutsideClass(_)) => OUTSIDE_NUMBER,
     }
 }
 
@@ -51,8 +61,8 @@ pub fn forecast_place(f: Forecast) -> usize
     ensures { result ≡ forecast_place f }
 {
     match f {
-        Forecast::Refused(_, place) => place,
-        Forecast::OutsideClass(place) => place,
-        Forecast::Known(_) => 0,
+        Ok(_) => 0,
+        Err(Unforeseen::Refused(refused)) => refused.place,
+        Err(Unforeseen::OutsideClass(place)) => place,
     }
 }

@@ -5,40 +5,28 @@ use console::IMAGE_CAPACITY;
 use image_needs::{Forecast, Needs};
 use std::io;
 
-// A name, a number and the end of the line.
-fn line(rt: &impl Print, name: &str, n: u64) -> io::Result<()> {
-    println!(rt; "{name}{n}")
-}
-
-fn quotas(rt: &impl Print, n: Needs) -> io::Result<()> {
-    line(rt, "bindings ", n.bindings as u64)?;
-    line(rt, "other-bindings ", n.other_bindings as u64)?;
-    line(rt, "pieces ", n.pieces as u64)?;
-    line(rt, "other-pieces ", n.other_pieces as u64)?;
-    line(rt, "cells ", n.cells as u64)?;
-    line(rt, "other-cells ", n.other_cells as u64)
-}
-
-fn numbers(rt: &impl Print, n: Needs) -> io::Result<()> {
-    line(rt, "steps ", n.steps as u64)?;
-    quotas(rt, n)?;
-    line(rt, "labels ", n.labels as u64)?;
-    line(rt, "advice ", n.advice as u64)?;
-    line(rt, "frames ", n.frames as u64)?;
-    line(rt, "log ", n.log as u64)
-}
-
-fn refused(rt: &impl Print, f: Forecast) -> io::Result<()> {
-    let number = image_needs::forecast_number(f);
-    let place = image_needs::forecast_place(f);
-    println!(rt; "refused {number} {place}")
+fn tell_numbers(rt: &impl Print, n: Needs) -> io::Result<()> {
+    println!(rt; "steps {}", n.steps)?;
+    println!(rt; "bindings {}", n.bindings)?;
+    println!(rt; "other-bindings {}", n.other_bindings)?;
+    println!(rt; "pieces {}", n.pieces)?;
+    println!(rt; "other-pieces {}", n.other_pieces)?;
+    println!(rt; "cells {}", n.cells)?;
+    println!(rt; "other-cells {}", n.other_cells)?;
+    println!(rt; "labels {}", n.labels)?;
+    println!(rt; "advice {}", n.advice)?;
+    println!(rt; "frames {}", n.frames)?;
+    println!(rt; "log {}", n.log)
 }
 
 fn told(rt: &impl Print, f: Forecast) -> io::Result<()> {
     match f {
-        Forecast::Refused(_, _) => refused(rt, f),
-        Forecast::OutsideClass(_) => refused(rt, f),
-        Forecast::Known(known) => numbers(rt, known),
+        Ok(known) => tell_numbers(rt, known),
+        Err(_) => {
+            let number = image_needs::forecast_number(f);
+            let place = image_needs::forecast_place(f);
+            println!(rt; "refused {number} {place}")
+        }
     }
 }
 

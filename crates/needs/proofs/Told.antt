@@ -1,11 +1,11 @@
 -- What is said of an image, from what the check, the lowest fault and the walk say.
-use Rattle.std.specs.Prelude.{Ok}
 use Prim.Native.Nat.{ℕ, suc, ◌+◌, ◌-◌, ◌≤◌, ◌<◌}
 use native.Mathlib.Omega.{arith}
 use mathlib.Core.Path.{◌≡◌, refl, sym, ap, subst, ◌∙◌}
 use mathlib.Core.Bool.{true}
 use mathlib.Core.List.{List}
 use lib.ListN.{length, get_or, replicate}
+use Rattle.std.proofs.Common.{Result, Ok, Err}
 use lib.Dec.{ltb}
 use borrow.Author.Tests.{lt-ltb, le-ltb}
 use Rattle.calculus.specs.Combinators.{choose}
@@ -16,24 +16,23 @@ use Rattle.calculus_needs.proofs.Small.{most}
 use Rattle.calculus_needs.proofs.Shift.{level}
 use Rattle.calculus_needs.proofs.Kept.{pieceless, rounds_alike}
 use Rattle.image.specs.declared.Refusal.{Refusal}
+use Rattle.image.specs.declared.Refused.{Refused}
 use Rattle.image.specs.Limits.{image_limit, work_length, report_length, term_limit}
 use Rattle.image.specs.Records.{Layout}
 use Rattle.image.specs.Layout.{records_of}
 use Rattle.image.specs.Types.{term_place, root_of}
 use Rattle.image.specs.Program.{tree, program, to_tm}
-use Rattle.verdict.specs.Answers.{Verdict, refused_at}
 use Rattle.verdict.specs.Acceptable.{Depth}
 use Rattle.verdict.specs.Verdicts.{verdict}
 use Rattle.verdict.proofs.Accept.{accepted_iff, acceptable_records}
 use Rattle.read_records.specs.declared.numbers.Counts.{Counts}
 use Rattle.read_terms.specs.Lent.{Lent}
-use Rattle.validator_core.specs.Examined.{Checked}
-use Rattle.validator_core.specs.Examined.{examined, verdict_of, Filled}
+use Rattle.validator_core.specs.Examined.{Checked, examined, verdict_of, Filled}
 use Rattle.validator_core.proofs.Stages.{too_long, examined_refuses, all_enough}
 use Rattle.image_needs.specs.declared.Needs.{Needs}
-use Rattle.image_needs.specs.declared.Forecast.{Forecast}
+use Rattle.image_needs.specs.declared.Unforeseen.{Unforeseen}
 use Rattle.image_needs.specs.Faults.{lowest, lowest_fault}
-use Rattle.image_needs.specs.Forecasts.{needs_of, classed, unless, forecast}
+use Rattle.image_needs.specs.Forecasts.{Forecast, needs_of, classed, unless, forecast}
 use Rattle.image_needs.proofs.Fits.{deepest, highest, accepted_small}
 use Rattle.need_terms.specs.First.{lowest_at}
 use Rattle.need_sums.specs.declared.positions.Position.{Position}
@@ -103,17 +102,17 @@ module _ (L : Layout) (some : 0 < length L.terms) (count f : ℕ) (ec : count �
       let b : count - 1 ≡ length L.terms - 1 = omega arith in
       ef ∙ (ap (λ x. lowest L x true (count - 1)) a ∙ ap (λ x. lowest L (length L.terms) true x) b)
 
-  pub outside_told : f < count → (place : ℕ) → place ≡ term_place L f → Forecast.OutsideClass place ≡ cut_classed L
+  pub outside_told : f < count → (place : ℕ) → place ≡ term_place L f → Err (Unforeseen.OutsideClass place) ≡ cut_classed L
   outside_told h place ep =
       let e = fault_is in
       let l : lowest_fault L < length L.terms = omega arith in
-      rw (lt-ltb (lowest_fault L) (length L.terms) l) (ap Forecast.OutsideClass (ep ∙ ap (λ x. term_place L x) e))
+      rw (lt-ltb (lowest_fault L) (length L.terms) l) (ap (λ o. Err (Unforeseen.OutsideClass o)) (ep ∙ ap (λ x. term_place L x) e))
 
-  pub known_told : count ≤ f → (x : Needs) → x ≡ cut_program L → Forecast.Known x ≡ cut_classed L
+  pub known_told : count ≤ f → (x : Needs) → x ≡ cut_program L → Ok x ≡ cut_classed L
   known_told h x ex =
       let e = fault_is in
       let l : length L.terms ≤ lowest_fault L = omega arith in
-      rw (le-ltb (lowest_fault L) (length L.terms) l) (ap Forecast.Known ex)
+      rw (le-ltb (lowest_fault L) (length L.terms) l) (ap Ok ex)
 
 -- Numbers of an accepted image are below the largest of 32 bits.
 not_cut : {N : Numbers} → Under N (most deepest highest) → cut_needs N ≡ needs_of N
@@ -134,9 +133,9 @@ not_cut {N} u =
 
 -- The check's answer.
 module _ (b : List ℕ) (short : length b ≤ image_limit) (x : Checked) (answer : verdict_of x ≡ examined b) where
-  pub refused_told : (r : Refusal) (o : ℕ) → x ≡ refused_at r o → Forecast.Refused r o ≡ forecast b
+  pub refused_told : (u : Refused) → x ≡ Err u → Err (Unforeseen.Refused u) ≡ forecast b
   unfolding forecast
-  refused_told r o e = ap (λ v. unless v (classed (records_of b))) (examined_refuses b work_length report_length short (refused_at r o) (sym (ap verdict_of e) ∙ answer) refl)
+  refused_told u e = ap (λ v. unless v (classed (records_of b))) (examined_refuses b work_length report_length short (Err u) (sym (ap verdict_of e) ∙ answer) refl)
 
   accepted : (n : Counts) → x ≡ Ok n → (Ok tt) ≡ verdict b work_length report_length
   accepted n e = all_enough b work_length report_length short (Ok tt) (sym (ap verdict_of e) ∙ answer) refl (omega arith) (omega arith)
@@ -145,7 +144,7 @@ module _ (b : List ℕ) (short : length b ≤ image_limit) (x : Checked) (answer
   unfolding forecast
   accepted_told n e f h =
       let k : cut_needs (need_of (to_tm (program (records_of b)))) ≡ needs_of (need_of (to_tm (program (records_of b)))) = not_cut (accepted_small b work_length report_length (sym (accepted n e))) in
-      h ∙ (ap (λ x. choose (ltb (lowest_fault (records_of b)) (length (records_of b).terms)) (Forecast.OutsideClass (term_place (records_of b) (lowest_fault (records_of b)))) (Forecast.Known x)) k ∙ ap (λ v. unless v (classed (records_of b))) (accepted n e))
+      h ∙ (ap (λ x. choose (ltb (lowest_fault (records_of b)) (length (records_of b).terms)) (Err (Unforeseen.OutsideClass (term_place (records_of b) (lowest_fault (records_of b))))) (Ok x)) k ∙ ap (λ v. unless v (classed (records_of b))) (accepted n e))
 
   pub shallow_terms : (n : Counts) → x ≡ Ok n → Shallow (records_of b)
   shallow_terms n e =
@@ -157,7 +156,7 @@ module _ (b : List ℕ) (short : length b ≤ image_limit) (x : Checked) (answer
       let a = (accepted_iff b work_length report_length).0 (sym (accepted n e)) in
       subst (λ L. 0 < length L.terms) (acceptable_records a) a.has_terms
 
-pub too_long_told : (b : List ℕ) → image_limit < length b → Forecast.Refused Refusal.ImageTooLong 0 ≡ forecast b
+pub too_long_told : (b : List ℕ) → image_limit < length b → Err (Unforeseen.Refused (record { why = Refusal.ImageTooLong; place = 0 })) ≡ forecast b
 unfolding forecast
 too_long_told b h = ap (λ v. unless v (classed (records_of b))) (too_long b work_length report_length h)
 

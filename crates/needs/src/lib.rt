@@ -12,8 +12,8 @@ ghost use Rattle.image_needs.specs.Forecasts.{forecast};
 ghost use Rattle.need_walk.specs.Counted.{Shallow};
 ghost use Rattle.needs.specs.Known.{program_position, cut_classed, cut_program};
 
-use image::{DOMAIN_LIMIT, IMAGE_LIMIT, Refusal, TERM_LIMIT, TYPE_LIMIT};
-use image_needs::{Forecast, Needs};
+use image::{DOMAIN_LIMIT, IMAGE_LIMIT, Refusal, Refused, TERM_LIMIT, TYPE_LIMIT};
+use image_needs::{Forecast, Needs, Unforeseen};
 use need_own::rows::TABLE;
 use need_rows::add_pieces;
 use need_sums::positions::{Mode, Position};
@@ -86,9 +86,9 @@ fn forecast_accepted(
     let none = TermNo(count as u16);
     let fault = lowest_fault(image, terms, none, true, root);
     if fault.0 < none.0 {
-        return Forecast::OutsideClass(term_place(image, terms, fault));
+        return Err(Unforeseen::OutsideClass(term_place(image, terms, fault)));
     }
-    Forecast::Known(program_needs(image, terms, descriptors, root))
+    Ok(program_needs(image, terms, descriptors, root))
 }
 
 // Of an image that is not too long.
@@ -100,11 +100,8 @@ fn forecast_checked(image: &[u8]) -> Forecast
     let mut types = [0u16; TYPE_LIMIT];
     let mut descriptors = [0u32; TYPE_LIMIT];
     let mut terms = [0u16; TERM_LIMIT];
-    let checked = examine_image(image, &mut doms, &mut types, &mut descriptors, &mut terms);
-    match checked {
-        Err(refused) => Forecast::Refused(refused.why, refused.place),
-        Ok(counts) => forecast_accepted(image, &terms, &descriptors, counts.terms),
-    }
+    let counts = examine_image(image, &mut doms, &mut types, &mut descriptors, &mut terms)?;
+    forecast_accepted(image, &terms, &descriptors, counts.terms)
 }
 
 // What is said of an image before a launch.
@@ -112,7 +109,11 @@ pub fn forecast_image(image: &[u8]) -> Forecast
     ensures { result ≡ forecast image.now }
 {
     if IMAGE_LIMIT < image.len() {
-        return Forecast::Refused(Refusal::ImageTooLong, 0);
+        let too_long = Refused {
+            why: Refusal::ImageTooLong,
+            place: 0,
+        };
+        return Err(Unforeseen::Refused(too_long));
     }
     forecast_checked(image)
 }
