@@ -32,8 +32,7 @@ pub fn run_each(
     let frame = frames.len() / count;
     let log = logs.len() / count;
     let report = reports.len() / count;
-    let mut i: usize = 0;
-    while i < count {
+    for i in 0..count {
         let f = i * frame;
         let f_end = f + frame;
         let l = i * log;
@@ -52,7 +51,6 @@ pub fn run_each(
             work,
         );
         numbers[i] = call_number(answer);
-        i += 1;
     }
     base_bytes::clear(work, WORK_LENGTH);
 }

@@ -58,18 +58,13 @@ pub run_code-answer-requires : goal.run_code-answer-requires
 run_code-answer-requires c =
     let l = c.loop-i in
     let n = length c.args.numbers.now in
-    let same = c.loop-i.invariant.1.2 in
+    let same = c.loop-i.invariant.0.2 in
     let parts = part_lent n l.i c.loop-i-test.true l.reports c.args.reports.now same in
     let long = ap length parts ∙ length_part n l.i c.loop-i-test.true l.reports ∙ ap (◌/ n) same in
-    (c.requires.0, c.requires.1, omega (arith, l.invariant.1.3, c.requires.3), rw long c.requires.4)
+    (c.requires.0, c.requires.1, omega (arith, l.invariant.0.3, c.requires.3), rw long c.requires.4)
 
 pub offset_bounds-numbers-i : goal.offset_bounds-numbers-i
 offset_bounds-numbers-i c =
-    let h : c.loop-i.i < length c.args.numbers.now = c.loop-i-test.true in
-    search rules
-
-pub overflow_add-i : goal.overflow_add-i
-overflow_add-i c =
     let h : c.loop-i.i < length c.args.numbers.now = c.loop-i-test.true in
     search rules
 
@@ -79,7 +74,7 @@ loop-i-preserved c =
     let a = c.args in
     let n = length a.numbers.now in
     let below = c.loop-i-test.true in
-    let same = c.loop-i.invariant.1 in
+    let same = c.loop-i.invariant.0 in
     let lent-log = part_lent n l.i below l.logs a.logs.now same.1 in
     let lent-report = part_lent n l.i below l.reports a.reports.now same.2 in
     let log-kept = c.run_code-answer.auto.log ∙ ap length lent-log ∙ length_part n l.i below l.logs in
@@ -88,11 +83,11 @@ loop-i-preserved c =
     let reports-back = part_back n l.i below l.reports a.reports.now same.2 _ report-kept in
     let long : work_length ≤ length l.work = omega (arith, same.3, c.requires.3) in
     let enough = accepted_with a.image.now c.requires.0 (length l.work) (part_length n l.reports) long (rw same.2 c.requires.4) in
-    (omega (arith, below), (length-set l.numbers l.i _ ∙ same.0, ap length logs-back ∙ length_with_part n l.i below l.logs _ log-kept ∙ same.1, ap length reports-back ∙ length_with_part n l.i below l.reports _ report-kept ∙ same.2, c.run_code-answer.auto.work ∙ same.3), run_recorded a.image.now a.frames.now a.budget n l.i below (record { answers = l.numbers; logs = l.logs; reports = l.reports; work = l.work }) long enough _ _ _ _ _ _ _ _ _ _ _ l.invariant.2 (part_lent n l.i below a.frames.now a.frames.now refl) lent-log lent-report c.run_code-answer.ensures logs-back reports-back c.call_number.ensures)
+    ((length-set l.numbers l.i _ ∙ same.0, ap length logs-back ∙ length_with_part n l.i below l.logs _ log-kept ∙ same.1, ap length reports-back ∙ length_with_part n l.i below l.reports _ report-kept ∙ same.2, c.run_code-answer.auto.work ∙ same.3), run_recorded a.image.now a.frames.now a.budget n l.i below (record { answers = l.numbers; logs = l.logs; reports = l.reports; work = l.work }) long enough _ _ _ _ _ _ _ _ _ _ _ l.invariant.1 (part_lent n l.i below a.frames.now a.frames.now refl) lent-log lent-report c.run_code-answer.ensures logs-back reports-back c.call_number.ensures)
 
 pub clear-requires : goal.clear-requires
 clear-requires c =
-    omega (arith, c.loop-i.invariant.1.3, c.requires.3)
+    omega (arith, c.loop-i.invariant.0.3, c.requires.3)
 
 pub returns : goal.returns
 returns c =
@@ -100,12 +95,12 @@ returns c =
     let l = c.loop-i in
     let n = length a.numbers.now in
     let R : Recording = record { answers = a.numbers.now; logs = a.logs.now; reports = a.reports.now; work = a.work.now } in
-    let done : l.i ≡ n = omega (arith, l.invariant.0, c.loop-i-test.false) in
+    let done : l.i ≡ n = omega (arith, c.loop-i-test.false, l.auto.i-end) in
     let enough = accepted_with a.image.now c.requires.0 (length a.work.now) (part_length n a.reports.now) c.requires.3 c.requires.4 in
     (λ j. record { answers = l.numbers; logs = l.logs; reports = l.reports; work = c.clear.ensures j })
-    ∙ l.invariant.2
+    ∙ l.invariant.1
     ∙ ap (λ k. first_calls a.image.now a.frames.now a.budget n k (with_clear_work R)) done
     ∙ calls_unseen a.image.now a.frames.now a.budget n c.requires.2 R c.requires.3 enough n c.requires.2
 
 pub loop-i-init : goal.loop-i-init
-loop-i-init c = (search rules, (refl, refl, refl, refl), first_none _ _ _ _ _)
+loop-i-init c = ((refl, refl, refl, refl), first_none _ _ _ _ _)
