@@ -1,4 +1,5 @@
 -- One record of the walk: each way that it ends leaves the tables as the definition says.
+use Rattle.std.specs.Prelude.{Result, Ok, Err}
 use Prim.Native.Nat.{ℕ, suc, ◌+◌, ◌-◌, ◌*◌, ◌≤◌, ◌<◌}
 use native.Mathlib.Omega.{arith}
 use native.Mathlib.Numerals.{add-one}
@@ -26,8 +27,6 @@ use Rattle.read_records.proofs.Codes.{Packs, times_in_lem, known_code, unknown_c
 use Rattle.image.proofs.Counts.{fields_length}
 use Rattle.read_records.proofs.Heads.{Whole, whole_of}
 use Rattle.read_records.proofs.Parts.{part_length, children_fit, children_are}
-use Rattle.check_layout.specs.declared.Entry.{Entry}
-use Rattle.check_ranges.specs.declared.faults.Tested.{Tested}
 use Rattle.check_fields.specs.Fields.{type_count, Narrow, DescriptorFrom}
 use Rattle.check_ranges.specs.Ranges.{ranges_from, groups_from, classes_past}
 use Rattle.check_ranges.specs.Numbers.{length_fits, Held, capacity_fits, number_tests, told_of}
@@ -98,14 +97,14 @@ module _ {b fs kinds : List ℕ} {o q k : ℕ} {n : Counts} {ds ts ks rs es ms :
   placed = types_placed R.tables (reached_good R.reached)
 
   -- A refusal leaves the tables as they were.
-  refused : (r : Refusal) → first_fault (tests L o) ≡ some r → Entered (Entry.Fault r) b o n ds ts es ds ts ks rs es ms
+  refused : (r : Refusal) → first_fault (tests L o) ≡ some r → Entered (Err r) b o n ds ts es ds ts ks rs es ms
   refused r h = record { answer = ap (λ x. entering x o (add (kind_at b o) o L)) (sym h); kept = λ x e. refl; tables = R.tables; filter = R.filter; marks = R.marks }
 
   -- 3
-  pub unknown_entry : code_at k ≡ 0 → Entered (Entry.Fault Refusal.UnknownKind) b o n ds ts es ds ts ks rs es ms
+  pub unknown_entry : code_at k ≡ 0 → Entered (Err Refusal.UnknownKind) b o n ds ts es ds ts ks rs es ms
   unknown_entry h = go (kind_of (number_at b o)) refl
     where
-      go : (x : Option Kind) → kind_of (number_at b o) ≡ x → Entered (Entry.Fault Refusal.UnknownKind) b o n ds ts es ds ts ks rs es ms
+      go : (x : Option Kind) → kind_of (number_at b o) ≡ x → Entered (Err Refusal.UnknownKind) b o n ds ts es ds ts ks rs es ms
       go none e = refused Refusal.UnknownKind (unknown entry R.tables e)
       go (some K) e = let z : code_at (number_at b o) ≡ 0 = rw entry.kind at h in no_path (sym (of_eq z) ∙ (known_code (number_at b o) K e).used)
 
@@ -145,7 +144,7 @@ module _ {b fs kinds : List ℕ} {o q k : ℕ} {n : Counts} {ds ts ks rs es ms :
   same_marks d t ds' ts' = R.marks ∙ marks_same L (layout_of b (record { domains = d; types = t; terms = n.terms }) ds' ts' es) n.terms (λ j l. refl)
 
   -- 4 to 7
-  pub fault_entry : (code_at k ≡ 0 → ⊥) → (r : Refusal) → some r ≡ first_fault (number_tests fs (code_at k) n) → Entered (Entry.Fault r) b o n ds ts es ds ts ks rs es ms
+  pub fault_entry : (code_at k ≡ 0 → ⊥) → (r : Refusal) → some r ≡ first_fault (number_tests fs (code_at k) n) → Entered (Err r) b o n ds ts es ds ts ks rs es ms
   fault_entry u r h =
       let K = known_kind u in
       refused r (known_tests K.kind K.is ∙ ap (λ x. or_else x (first_fault ((Refusal.RepeatedType, is_new K.kind o L) ∷ []))) (sym h))
@@ -227,7 +226,7 @@ module _ {b fs kinds : List ℕ} {o q k : ℕ} {n : Counts} {ds ts ks rs es ms :
 
     -- A kind's record that passes 8 too, with the tables that it leaves.
     enters : (K : Kind) → kind_of (number_at b o) ≡ some K → is_new K o L ≡ true → (m : Counts) (ds' ts' ks' rs' es' ms' : List ℕ) → layout_of b m ds' ts' es' ≡ add K o L
-        → Tables b m ds' ts' ks' es' → Filters b m.types ts' ks' rs' → Marks b m ds' ts' es' ms' → Entered (Entry.Laid m) b o n ds ts es ds' ts' ks' rs' es' ms'
+        → Tables b m ds' ts' ks' es' → Filters b m.types ts' ks' rs' → Marks b m ds' ts' es' ms' → Entered (Ok m) b o n ds ts es ds' ts' ks' rs' es' ms'
     enters K e new m ds' ts' ks' rs' es' ms' l T' F' M' =
         record {
           answer = ap Image.laid l ∙ (ap (λ x. entering x o (add K o L)) (not_repeated _ new ∙ sym (last_test K e)) ∙ ap (λ J. entering (first_fault (tests L o)) o (add J o L)) (sym (at_kind K e)));
@@ -253,13 +252,13 @@ module _ {b fs kinds : List ℕ} {o q k : ℕ} {n : Counts} {ds ts ks rs es ms :
     pub term_capacity : section_of (code_at k) ≡ 3 → n.terms < term_limit
     term_capacity e = lt_of (capacity_at 3 e)
 
-    pub domain_entry : (section_of (code_at k) ≡ 3 → ⊥) → (section_of (code_at k) ≡ 2 → ⊥) → Entered (Entry.Laid (with_domain n)) b o n ds ts es (set ds n.domains o) ts ks rs es ms
+    pub domain_entry : (section_of (code_at k) ≡ 3 → ⊥) → (section_of (code_at k) ≡ 2 → ⊥) → Entered (Ok (with_domain n)) b o n ds ts es (set ds n.domains o) ts ks rs es ms
     domain_entry a c =
         let m = domain_capacity a c in
         enters domain (known_domain a c) refl (with_domain n) _ ts ks rs es ms (domain_more R.tables o m) (domain_kept R.tables o m) R.filter (same_marks (n.domains + 1) n.types _ ts)
 
     -- A record of section 3 is a term's, with the children that the definition gives it.
-    term_entry : section_of (code_at k) ≡ 3 → Entered (Entry.Laid (with_term n)) b o n ds ts es ds ts ks rs (set es n.terms o) (entered (children_of (code_at k) fs) n.terms ms)
+    term_entry : section_of (code_at k) ≡ 3 → Entered (Ok (with_term n)) b o n ds ts es ds ts ks rs (set es n.terms o) (entered (children_of (code_at k) fs) n.terms ms)
     term_entry s =
         let t = known_term u s in
         let K = t.kind in
@@ -301,15 +300,15 @@ module _ {b fs kinds : List ℕ} {o q k : ℕ} {n : Counts} {ds ts ks rs es ms :
           new_law R.tables (reached_good R.reached) o K x e descriptor_is_lem (stands b o (type K) entry.framed e right) ∙ ap (λ gs. new_type b gs n.types ts ks x) (sym own_fields)
 
       -- It is there already, or it is put into the tables.
-      module _ {t : Tested} {ts' ks' rs' : List ℕ} (p : PutType t b fs o x n.types ts ks rs ts' ks' rs') where
-        pub repeated_entry : {r : Refusal} → t ≡ Tested.Fault r → Entered (Entry.Fault r) b o n ds ts es ds ts' ks' rs' es ms
+      module _ {t : Result (Unit {0}) Refusal} {ts' ks' rs' : List ℕ} (p : PutType t b fs o x n.types ts ks rs ts' ks' rs') where
+        pub repeated_entry : {r : Refusal} → t ≡ Err r → Entered (Err r) b o n ds ts es ds ts' ks' rs' es ms
         repeated_entry {r} e =
             let f : some r ≡ first_fault ((Refusal.RepeatedType, new_type b fs n.types ts ks x) ∷ []) = ap told_of (sym e) ∙ p.answer in
             let a : new_type b fs n.types ts ks x ≡ false = old_type _ f in
             let g : first_fault (tests L o) ≡ some r = last_test (type type_is.kind) type_is.is ∙ (ap (λ y. first_fault ((Refusal.RepeatedType, y) ∷ [])) new ∙ sym f) in
             rw (p.types, p.descriptors, p.filter, a) (refused r g)
 
-        pub type_entry : t ≡ Tested.Passed → Entered (Entry.Laid (with_type n)) b o n ds ts es ds ts' ks' rs' es ms
+        pub type_entry : t ≡ Ok tt → Entered (Ok (with_type n)) b o n ds ts es ds ts' ks' rs' es ms
         type_entry e =
             let a : new_type b fs n.types ts ks x ≡ true = new_type_lem _ (ap told_of (sym e) ∙ p.answer) in
             let m = type_capacity s in
@@ -321,9 +320,9 @@ module _ {b fs kinds : List ℕ} {o q k : ℕ} {n : Counts} {ds ts ks rs es ms :
             (enters (type type_is.kind) type_is.is (new ∙ a) (with_type n) ds _ _ _ es ms (type_more R.tables o type_is.kind m) (type_kept R.tables o type_is.kind x m descriptor_is_lem) F' (same_marks n.domains (n.types + 1) ds _))
 
   -- What becomes of a term.
-  pub term_answer : (u : code_at k ≡ 0 → ⊥) → section_of (code_at k) ≡ 3 → {r : Entry} {es' ms' : List ℕ} → EntersTerm r fs (code_at k) o n es ms es' ms' → Entered r b o n ds ts es ds ts ks rs es' ms'
+  pub term_answer : (u : code_at k ≡ 0 → ⊥) → section_of (code_at k) ≡ 3 → {r : Result Counts Refusal} {es' ms' : List ℕ} → EntersTerm r fs (code_at k) o n es ms es' ms' → Entered r b o n ds ts es ds ts ks rs es' ms'
   term_answer u s {r} {es'} {ms'} E = go (first_fault (number_tests fs (code_at k) n)) refl
     where
       go : (x : Option Refusal) → first_fault (number_tests fs (code_at k) n) ≡ x → Entered r b o n ds ts es ds ts ks rs es' ms'
-      go (some f) e = let a : r ≡ Entry.Fault f = E.answer ∙ ap (λ y. entry_for y (with_term n)) e in rw (E.terms, E.marks, a) (fault_entry u f (sym e))
-      go none e = let a : r ≡ Entry.Laid (with_term n) = E.answer ∙ ap (λ y. entry_for y (with_term n)) e in rw (E.terms, E.marks, a) (term_entry u (sym e) s)
+      go (some f) e = let a : r ≡ Err f = E.answer ∙ ap (λ y. entry_for y (with_term n)) e in rw (E.terms, E.marks, a) (fault_entry u f (sym e))
+      go none e = let a : r ≡ Ok (with_term n) = E.answer ∙ ap (λ y. entry_for y (with_term n)) e in rw (E.terms, E.marks, a) (term_entry u (sym e) s)

@@ -1,4 +1,5 @@
 -- The marks of a layout with one term more, and what becomes of a term.
+use Rattle.std.specs.Prelude.{Result, Ok, Err}
 use Prim.Native.Nat.{ℕ, suc, ◌+◌, ◌<◌}
 use native.Mathlib.Omega.{arith}
 use mathlib.Core.Path.{◌≡◌, sym, ap, subst, ◌∙◌}
@@ -20,11 +21,9 @@ use Rattle.read_records.specs.Codes.{section_of}
 use Rattle.read_records.specs.Heads.{children_of}
 use Rattle.check_uses.specs.Marks.{Lower, entered, marks_of}
 use Rattle.check_uses.proofs.ChildByChild.{below_lower, marks_same}
-use Rattle.check_ranges.specs.declared.faults.Tested.{Tested}
 use Rattle.check_ranges.specs.Numbers.{number_tests, told_of}
 use Rattle.check_ranges.specs.Terms.{marks_behind}
 use Rattle.check_ranges.proofs.Taken.{term_capacity}
-use Rattle.check_layout.specs.declared.Entry.{Entry}
 use Rattle.check_layout.specs.Tables.{entry_for, EntersTerm}
 
 module _ (L : Layout) (o : ℕ) (k : TermKind) (e : kind_at L.image o ≡ term k) where
@@ -58,21 +57,21 @@ module _ (L : Layout) (o : ℕ) (k : TermKind) (e : kind_at L.image o ≡ term k
   last_marked = ap (λ es. entered es m (marks_of M m)) last ∙ ap (λ ms. entered (children_at L.image o (term_row k)) m ms) (marks_same M L m earlier)
 
 -- A term that 4 to 7 refuse, and one that they do not, by the answer to them.
-module _ (fs : List ℕ) (x : ℕ) (n : Counts) (r : Tested) (a : told_of r ≡ first_fault (number_tests fs x n)) where
+module _ (fs : List ℕ) (x : ℕ) (n : Counts) (r : Result (Unit {0}) Refusal) (a : told_of r ≡ first_fault (number_tests fs x n)) where
   abbrev behind_it : List ℕ → List ℕ
   behind_it ms = marks_behind r (children_of x fs) n.terms ms
 
-  module _ (e : r ≡ Tested.Passed) where
+  module _ (e : r ≡ Ok tt) where
     passes : none ≡ first_fault (number_tests fs x n)
     passes = ap told_of (sym e) ∙ a
 
     pub passed_capacity : section_of x ≡ 3 → n.terms < term_limit
     passed_capacity s = term_capacity x n s (passed _ _ _ (passed _ _ _ (passed _ _ _ (sym passes)).1).1).0
 
-    pub term_passed : {m : Counts} → m ≡ with_term n → {o : ℕ} {es es' : List ℕ} → es' ≡ set es n.terms o → {ms ms' : List ℕ} → ms' ≡ behind_it ms → EntersTerm (Entry.Laid m) fs x o n es ms es' ms'
+    pub term_passed : {m : Counts} → m ≡ with_term n → {o : ℕ} {es es' : List ℕ} → es' ≡ set es n.terms o → {ms ms' : List ℕ} → ms' ≡ behind_it ms → EntersTerm (Ok m) fs x o n es ms es' ms'
     term_passed c d {ms} b =
         record {
-          answer = ap Entry.Laid c ∙ ap (λ y. entry_for y (with_term n)) passes;
+          answer = ap Ok c ∙ ap (λ y. entry_for y (with_term n)) passes;
           terms = d;
           marks = b ∙ ap (λ y. marks_behind y (children_of x fs) n.terms ms) e;
         }

@@ -1,4 +1,5 @@
 -- The loop over the records: its stages, and how it ends.
+use Rattle.std.specs.Prelude.{Option, None, Result, Ok, Err}
 use Prim.Native.Nat.{ℕ, ◌+◌, ◌≤◌, ◌<◌}
 use native.Mathlib.Omega.{arith}
 use mathlib.Core.Path.{◌≡◌, sym, ap, ◌∙◌}
@@ -7,6 +8,7 @@ use mathlib.Core.List.{List}
 use mathlib.Core.Option.{some}
 use lib.ListN.{length, replicate}
 use Rattle.image.specs.declared.Refusal.{Refusal}
+use Rattle.image.specs.declared.Refused.{Refused}
 use Rattle.image.specs.Limits.{term_limit}
 use Rattle.image.specs.Records.{Layout}
 use Rattle.image.specs.Layout.{layout}
@@ -14,18 +16,16 @@ use Rattle.laws.proofs.Booleans.{no_path, lt_of, ge_of, by_test}
 use Rattle.read_records.specs.declared.numbers.Counts.{Counts}
 use Rattle.read_records.specs.Counts.{no_records}
 use Rattle.read_records.specs.declared.reader.Head.{Head}
-use Rattle.read_records.specs.Heads.{head_at}
+use Rattle.read_records.specs.Heads.{a_record, head_at}
 use Rattle.read_records.proofs.Heads.{at_end_lem, whole_of, broken_of}
 use Rattle.check_uses.specs.Marks.{marks_of}
 use Rattle.check_repeats.specs.Keys.{filter_length, Filters}
-use Rattle.check_layout.specs.declared.Scan.{Scan}
-use Rattle.check_layout.specs.declared.Entry.{Entry}
 use Rattle.check_layout.specs.Tables.{layout_of, entry_of, counts_behind, Marks, Entered, Lent, Reached, scan_of, end_of, Holds, ScannedWith}
 use Rattle.check_layout.proofs.Going.{Going, going_start, going_end, going_stop, going_on, broken, told_fault, told_none}
 
 -- A refusal is told only before the end.
-refused_inside : (b : List ℕ) (o : ℕ) (r : Refusal) → head_at b o ≡ Head.Refused r → o < length b
-refused_inside b o r h = by_test (ltb o (length b)) (λ e. lt_of e) λ e. let z : Head.End ≡ Head.Refused r = at_end_lem b o (ge_of e) ∙ h in no_path cc
+refused_inside : (b : List ℕ) (o : ℕ) (r : Refusal) → head_at b o ≡ Err r → o < length b
+refused_inside b o r h = by_test (ltb o (length b)) (λ e. lt_of e) λ e. let z : ◌≡◌ {A = Result (Option Head) Refusal} (Ok None) (Err r) = at_end_lem b o (ge_of e) ∙ h in no_path cc
 
 -- The records before o are in the tables, and the walk is as far.
 pub record Stage (b : List ℕ) (o : ℕ) (n : Counts) (ds ts ks rs es ms : List ℕ) : Type 0 where
@@ -60,24 +60,24 @@ module _ {b : List ℕ} {o : ℕ} {n : Counts} {ds ts ks rs es ms : List ℕ} (S
   L = layout_of b n ds ts es
 
   -- The scan ends here.
-  scanned : (r : Scan) → scan_of r b ds ts es ≡ layout b → ((m : Counts) → r ≡ Scan.Laid m → n ≡ m) → end_of (layout b) b ≡ o → ScannedWith r b ds ts ks rs es ms
+  scanned : (r : Result Counts Refused) → scan_of r b ds ts es ≡ layout b → ((m : Counts) → r ≡ Ok m → n ≡ m) → end_of (layout b) b ≡ o → ScannedWith r b ds ts ks rs es ms
   scanned r a c e = record { scanned = record { answer = a; counts = n; counted = c; holds = rw e S.holds; marks = S.marks }; filter = S.filter }
 
-  pub ends : length b ≤ o → ScannedWith (Scan.Laid n) b ds ts ks rs es ms
+  pub ends : length b ≤ o → ScannedWith (Ok n) b ds ts ks rs es ms
   ends h =
       let i = S.inside in
       let e = going_end o L S.going (omega arith) in
-      scanned (Scan.Laid n) (sym e) (λ m d. cc) (ap (λ x. end_of x b) e ∙ (omega arith))
+      scanned (Ok n) (sym e) (λ m d. cc) (ap (λ x. end_of x b) e ∙ (omega arith))
 
-  pub stops : {r : Refusal} → head_at b o ≡ Head.Refused r → ScannedWith (Scan.Stopped r o) b ds ts ks rs es ms
+  pub stops : {r : Refusal} → head_at b o ≡ Err r → ScannedWith (Err (record { why = r; place = o })) b ds ts ks rs es ms
   stops {r} h =
       let l = refused_inside b o r h in
       let z = broken_of b o r h in
       let e = going_stop o L S.going l r (broken o L z.0 ∙ ap some (sym z.1)) in
-      scanned (Scan.Stopped r o) (sym e) (λ m d. no_path cc) (ap (λ x. end_of x b) e)
+      scanned (Err (record { why = r; place = o })) (sym e) (λ m d. no_path cc) (ap (λ x. end_of x b) e)
 
-  module _ (l : o < length b) {t : Entry} {ds' ts' ks' rs' es' ms' : List ℕ} (E : Entered t b o n ds ts es ds' ts' ks' rs' es' ms') where
-    pub refuses : {r : Refusal} → t ≡ Entry.Fault r → ScannedWith (Scan.Stopped r o) b ds' ts' ks' rs' es' ms'
+  module _ (l : o < length b) {t : Result Counts Refusal} {ds' ts' ks' rs' es' ms' : List ℕ} (E : Entered t b o n ds ts es ds' ts' ks' rs' es' ms') where
+    pub refuses : {r : Refusal} → t ≡ Err r → ScannedWith (Err (record { why = r; place = o })) b ds' ts' ks' rs' es' ms'
     refuses {r} d =
         let a = ap (λ x. entry_of x b o ds' ts' es') (sym d) ∙ E.answer in
         let e = going_stop o L S.going l r (told_fault r _ o _ a) in
@@ -94,7 +94,7 @@ module _ {b : List ℕ} {o : ℕ} {n : Counts} {ds ts ks rs es ms : List ℕ} (S
           filter = rw c at E.filter;
         }
 
-    pub goes_on : {m : Counts} → t ≡ Entry.Laid m → {q k : ℕ} → head_at b o ≡ Head.Record q k → Stage b (o + q) m ds' ts' ks' rs' es' ms'
+    pub goes_on : {m : Counts} → t ≡ Ok m → {q k : ℕ} → head_at b o ≡ a_record q k → Stage b (o + q) m ds' ts' ks' rs' es' ms'
     goes_on {m} d {q} {k} h =
         let W = whole_of b o q k h in
         let a = ap (λ x. entry_of x b o ds' ts' es') (sym d) ∙ E.answer in

@@ -1,7 +1,8 @@
 -- The tables of records as the definition's layout (document 01, "The image"), and what each function does to them, record by record (document 01, "Turned back at the gate", refusals 2 to 8).
-use Rattle.std.specs.Prelude.{ℕ, ◌+◌, ◌≤◌, ◌<◌, ◌≡◌, List, [], ◌∷◌, length, get_or, take, set}
+use Rattle.std.specs.Prelude.{ℕ, ◌+◌, ◌≤◌, ◌<◌, ◌≡◌, List, [], ◌∷◌, length, get_or, take, set, Result, Ok, Err}
 use Rattle.std.proofs.Math.Option.{Option, none, some}
 use Rattle.image.specs.declared.Refusal.{Refusal}
+use Rattle.image.specs.declared.Refused.{Refused}
 use Rattle.image.specs.Limits.{image_limit, domain_limit, type_limit, term_limit}
 use Rattle.laws.specs.Tests.{first_fault}
 use Rattle.image.specs.Bytes.{length_at}
@@ -11,15 +12,11 @@ use Rattle.image.specs.Layout as Image
 use Rattle.image.specs.Types.{type_place}
 use Rattle.calculus.specs.Combinators.{choose}
 use Rattle.read_records.specs.declared.numbers.Counts.{Counts}
-use Rattle.read_records.specs.declared.reader.Head.{Head}
 use Rattle.read_records.specs.Counts.{Few, with_term}
-use Rattle.read_records.specs.Heads.{head_at, field_bytes, children_of}
+use Rattle.read_records.specs.Heads.{a_record, head_at, field_bytes, children_of}
 use Rattle.read_records.specs.Codes.{kind_codes}
 use Rattle.read_records.specs.Descriptors.{Describes}
 use Rattle.check_uses.specs.Marks.{entered, marks_of}
-use Rattle.check_layout.specs.declared.Scan.{Scan}
-use Rattle.check_layout.specs.declared.Entry.{Entry}
-use Rattle.check_ranges.specs.declared.faults.Tested.{Tested}
 use Rattle.check_repeats.specs.NewTypes.{new_type}
 use Rattle.check_repeats.specs.Keys.{key_of, with_key, Filters}
 use Rattle.check_ranges.specs.Numbers.{told_of, number_tests}
@@ -45,7 +42,7 @@ pub record Tables (b : List ℕ) (n : Counts) (ds ts ks es : List ℕ) : Type 0 
   pub described : Described (layout_of b n ds ts es) ks
 
 -- Type t, with the fields fs, is put into the tables, with the offset o, the descriptor x and its key, unless it is there already.
-pub record PutType (r : Tested) (b fs : List ℕ) (o x t : ℕ) (ts ks rs ts' ks' rs' : List ℕ) : Type 0 where
+pub record PutType (r : Result (Unit {0}) Refusal) (b fs : List ℕ) (o x t : ℕ) (ts ks rs ts' ks' rs' : List ℕ) : Type 0 where
   pub answer : told_of r ≡ first_fault ((Refusal.RepeatedType, new_type b fs t ts ks x) ∷ [])
   pub types : ts' ≡ choose (new_type b fs t ts ks x) (set ts t o) ts
   pub descriptors : ks' ≡ choose (new_type b fs t ts ks x) (set ks t x) ks
@@ -57,13 +54,13 @@ entering (some r) o L = stopped r o
 entering none o L = laid L
 
 -- The answer to a record at o, with the tables that it leaves, as the definition's; and how many records they hold, n of them before.
-abbrev pub entry_of : Entry → List ℕ → ℕ → List ℕ → List ℕ → List ℕ → Image.Scan
-entry_of (Entry.Fault r) b o ds ts es = stopped r o
-entry_of (Entry.Laid n) b o ds ts es = laid (layout_of b n ds ts es)
+abbrev pub entry_of : Result Counts Refusal → List ℕ → ℕ → List ℕ → List ℕ → List ℕ → Image.Scan
+entry_of (Err r) b o ds ts es = stopped r o
+entry_of (Ok n) b o ds ts es = laid (layout_of b n ds ts es)
 
-abbrev pub counts_behind : Entry → Counts → Counts
-counts_behind (Entry.Fault r) n = n
-counts_behind (Entry.Laid m) n = m
+abbrev pub counts_behind : Result Counts Refusal → Counts → Counts
+counts_behind (Err r) n = n
+counts_behind (Ok m) n = m
 
 -- The scan comes to the offset o with the records of a layout: none of them is refused.
 pub data Reached (b : List ℕ) : ℕ → Layout → Type 0 where
@@ -76,7 +73,7 @@ Marks b n ds ts es ms = ms ≡ marks_of (layout_of b n ds ts es) n.terms
 
 -- A record of q bytes and of kind k at o, in an image b: its fields are fs.
 pub record Entering (b fs kinds : List ℕ) (o q k : ℕ) (n : Counts) (ds ts ks rs es ms : List ℕ) : Type 0 where
-  pub head : head_at b o ≡ Head.Record q k
+  pub head : head_at b o ≡ a_record q k
   pub fields : fs ≡ field_bytes b o q
   pub short : length b ≤ image_limit
   pub codes : kinds ≡ kind_codes
@@ -85,9 +82,9 @@ pub record Entering (b fs kinds : List ℕ) (o q k : ℕ) (n : Counts) (ds ts ks
   pub reached : Reached b o (layout_of b n ds ts es)
   pub marks : Marks b n ds ts es ms
 
-pub record Entered (r : Entry) (b : List ℕ) (o : ℕ) (n : Counts) (ds ts es ds' ts' ks' rs' es' ms' : List ℕ) : Type 0 where
+pub record Entered (r : Result Counts Refusal) (b : List ℕ) (o : ℕ) (n : Counts) (ds ts es ds' ts' ks' rs' es' ms' : List ℕ) : Type 0 where
   pub answer : entry_of r b o ds' ts' es' ≡ entering (first_fault (tests (layout_of b n ds ts es) o)) o (add (kind_at b o) o (layout_of b n ds ts es))
-  pub kept : (q : Refusal) → r ≡ Entry.Fault q → layout_of b n ds' ts' es' ≡ layout_of b n ds ts es
+  pub kept : (q : Refusal) → r ≡ Err q → layout_of b n ds' ts' es' ≡ layout_of b n ds ts es
   pub tables : Tables b (counts_behind r n) ds' ts' ks' es'
   pub filter : Filters b (counts_behind r n).types ts' ks' rs'
   pub marks : Marks b (counts_behind r n) ds' ts' es' ms'
@@ -97,20 +94,20 @@ pub record Enterable (b fs kinds : List ℕ) (o k : ℕ) (n : Counts) (ds ts ks 
   pub len : ℕ
   pub is : Entering b fs kinds o len k n ds ts ks rs es ms
 
-pub record Enters (r : Entry) (b fs kinds : List ℕ) (o k : ℕ) (n : Counts) (ds ts ks rs es ms ds' ts' ks' rs' es' ms' : List ℕ) : Type 0 where
+pub record Enters (r : Result Counts Refusal) (b fs kinds : List ℕ) (o k : ℕ) (n : Counts) (ds ts ks rs es ms ds' ts' ks' rs' es' ms' : List ℕ) : Type 0 where
   pub entered : (q : ℕ) → Entering b fs kinds o q k n ds ts ks rs es ms → Entered r b o n ds ts es ds' ts' ks' rs' es' ms'
 
 -- The answer to a term that 4 to 7 refuse or not, and what stands behind it: the old or the new.
-abbrev pub entry_for : Option Refusal → Counts → Entry
-entry_for (some r) n = Entry.Fault r
-entry_for none n = Entry.Laid n
+abbrev pub entry_for : Option Refusal → Counts → Result Counts Refusal
+entry_for (some r) n = Err r
+entry_for none n = Ok n
 
-abbrev pub behind : Entry → List ℕ → List ℕ → List ℕ
-behind (Entry.Fault r) old new = old
-behind (Entry.Laid n) old new = new
+abbrev pub behind : Result Counts Refusal → List ℕ → List ℕ → List ℕ
+behind (Err r) old new = old
+behind (Ok n) old new = new
 
 -- What enter_term does with a term at o, whose fields are fs and whose kind has the code x.
-pub record EntersTerm (r : Entry) (fs : List ℕ) (x o : ℕ) (n : Counts) (es ms es' ms' : List ℕ) : Type 0 where
+pub record EntersTerm (r : Result Counts Refusal) (fs : List ℕ) (x o : ℕ) (n : Counts) (es ms es' ms' : List ℕ) : Type 0 where
   pub answer : r ≡ entry_for (first_fault (number_tests fs x n)) (with_term n)
   pub terms : es' ≡ behind r es (set es n.terms o)
   pub marks : ms' ≡ behind r ms (entered (children_of x fs) n.terms ms)
@@ -122,9 +119,9 @@ pub record Lent (b kinds ds ts ks es : List ℕ) : Type 0 where
   pub long : Long ds ts ks es
 
 -- The answer and the tables at exit, as the definition's; and how far the scan came.
-abbrev pub scan_of : Scan → List ℕ → List ℕ → List ℕ → List ℕ → Image.Scan
-scan_of (Scan.Stopped r o) b ds ts es = stopped r o
-scan_of (Scan.Laid n) b ds ts es = laid (layout_of b n ds ts es)
+abbrev pub scan_of : Result Counts Refused → List ℕ → List ℕ → List ℕ → List ℕ → Image.Scan
+scan_of (Err e) b ds ts es = stopped e.why e.place
+scan_of (Ok n) b ds ts es = laid (layout_of b n ds ts es)
 
 abbrev pub end_of : Image.Scan → List ℕ → ℕ
 end_of (stopped r o) b = o
@@ -136,14 +133,14 @@ pub record Holds (b : List ℕ) (o : ℕ) (n : Counts) (ds ts ks es : List ℕ) 
   pub tables : Tables b n ds ts ks es
 
 -- All records, where none is refused; else those before the refused one.
-pub record Scanned (r : Scan) (b ds ts ks es ms : List ℕ) : Type 0 where
+pub record Scanned (r : Result Counts Refused) (b ds ts ks es ms : List ℕ) : Type 0 where
   pub answer : scan_of r b ds ts es ≡ layout b
   pub counts : Counts
-  pub counted : (n : Counts) → r ≡ Scan.Laid n → counts ≡ n
+  pub counted : (n : Counts) → r ≡ Ok n → counts ≡ n
   pub holds : Holds b (end_of (layout b) b) counts ds ts ks es
   pub marks : Marks b counts ds ts es ms
 
 -- The same of a scan with a filter, which then has the keys of the types.
-pub record ScannedWith (r : Scan) (b ds ts ks rs es ms : List ℕ) : Type 0 where
+pub record ScannedWith (r : Result Counts Refused) (b ds ts ks rs es ms : List ℕ) : Type 0 where
   pub scanned : Scanned r b ds ts ks es ms
   pub filter : Filters b scanned.counts.types ts ks rs

@@ -9,26 +9,16 @@ ghost use Rattle.check_repeats.specs.Keys.{filter_length};
 ghost use Rattle.check_ranges.specs.Terms.{TermFields};
 ghost use Rattle.check_layout.specs.Tables.{Lent, Scanned, ScannedWith, Enterable, Enters, EntersTerm};
 
+use check_ranges::faults::first_fault;
+use check_ranges::terms::term_fault;
 use check_repeats::keys::FILTER_LENGTH;
+use image::{Refusal, Refused};
 use read_records::numbers::{Counts, DomainNo, TermNo, TypeNo};
+use read_records::reader::Walk;
 
 pub mod tables;
 
-// Refused, at a record's offset; or all records are in the tables, so many of each section.
-#[derive(Clone, Copy)]
-pub enum Scan {
-    Stopped(image::Refusal, usize),
-    Laid(Counts),
-}
-
-// What becomes of a record: refused, or in its table, with the counts behind it.
-#[derive(Clone, Copy)]
-pub enum Entry {
-    Fault(image::Refusal),
-    Laid(Counts),
-}
-
-// A term: 4 to 7, its marks, and its place in its table.
+// A term: 4 to 7, its marks, and its place in its table; the counts behind it.
 fn enter_term(
     fields: &[u8],
     code: u32,
@@ -36,18 +26,13 @@ fn enter_term(
     counts: Counts,
     terms: &mut [u16],
     marks: &mut [u8],
-) -> Entry
+) -> Result<Counts, Refusal>
     requires { TermFields fields.now code counts × (length fields.now ≤ 65535) × (at < 65536) × Few counts × (term_limit ≤ length terms.old) × (term_limit ≤ length marks.old) }
     ensures { EntersTerm result fields.now code at counts terms.old marks.old terms.new marks.new }
 {
-    let tested = check_ranges::terms::term_fault(fields, code, counts, marks);
-    match tested {
-        check_ranges::faults::Tested::Fault(why) => Entry::Fault(why),
-        check_ranges::faults::Tested::Passed => {
-            tables::put_term(at, counts.next(), terms);
-            Entry::Laid(counts.with_one::<TermNo>())
-        }
-    }
+    term_fault(fields, code, counts, marks)?;
+    tables::put(at, counts.next::<TermNo>(), terms);
+    Ok(counts.with_one::<TermNo>())
 }
 
 // One record of the image: 3 to 8, and its place in its table. It is lent the record's fields. A term's code is asked for first,
@@ -65,7 +50,7 @@ fn enter(
     filter: &mut [u32],
     terms: &mut [u16],
     marks: &mut [u8],
-) -> Entry
+) -> Result<Counts, Refusal>
     requires { Enterable image.now fields.now kinds.now at kind counts doms.old types.old descriptors.old filter.old terms.old marks.old }
     ensures { Enters result image.now fields.now kinds.now at kind counts doms.old types.old descriptors.old filter.old terms.old marks.old doms.new types.new descriptors.new filter.new terms.new marks.new }
 {
@@ -74,18 +59,12 @@ fn enter(
         return enter_term(fields, code, at, counts, terms, marks);
     }
     if code == 0 {
-        return Entry::Fault(image::Refusal::UnknownKind);
+        return Err(Refusal::UnknownKind);
     }
-    let tested = check_ranges::faults::first_fault(fields, code, counts);
-    match tested {
-        check_ranges::faults::Tested::Fault(why) => {
-            return Entry::Fault(why);
-        }
-        check_ranges::faults::Tested::Passed => {}
-    }
+    first_fault(fields, code, counts)?;
     if read_records::table::section_of(code) == read_records::table::TYPES {
         let descriptor = check_fields::descriptor_of(fields, code, kind);
-        let new = tables::put_type(
+        tables::put_type(
             image,
             fields,
             at,
@@ -94,18 +73,11 @@ fn enter(
             types,
             descriptors,
             filter,
-        );
-        match new {
-            check_ranges::faults::Tested::Fault(why) => {
-                return Entry::Fault(why);
-            }
-            check_ranges::faults::Tested::Passed => {
-                return Entry::Laid(counts.with_one::<TypeNo>());
-            }
-        }
+        )?;
+        return Ok(counts.with_one::<TypeNo>());
     }
-    tables::put_domain(at, counts.next(), doms);
-    Entry::Laid(counts.with_one::<DomainNo>())
+    tables::put(at, counts.next::<DomainNo>(), doms);
+    Ok(counts.with_one::<DomainNo>())
 }
 
 // The scan with a filter of keys, which may hold anything at first: with zeros the fewest keys are compared.
@@ -119,51 +91,41 @@ fn scan_with(
     filter: &mut [u32],
     terms: &mut [u16],
     marks: &mut [u8],
-) -> Scan
+) -> Result<Counts, Refused>
     requires { Lent image.now kinds.now doms.old types.old descriptors.old terms.old × (filter_length ≤ length filter.old) × (marks.old ≡ replicate term_limit 0) }
     ensures { ScannedWith result image.now doms.new types.new descriptors.new filter.new terms.new marks.new }
 {
-    let mut walk = read_records::reader::new(image, 0);
+    let mut walk = Walk::new(image, 0);
     let mut counts = Counts::none();
-    loop {
-        let head = read_records::reader::next(walk);
-        match head {
-            read_records::reader::Head::Record { len, kind } => {
-                let fields = read_records::reader::fields(walk, len);
-                let entered = enter(
-                    image,
-                    fields,
-                    kinds,
-                    walk.at,
-                    kind,
-                    counts,
-                    doms,
-                    types,
-                    descriptors,
-                    filter,
-                    terms,
-                    marks,
-                );
-                match entered {
-                    Entry::Fault(why) => {
-                        return Scan::Stopped(why, walk.at);
-                    }
-                    Entry::Laid(next) => {
-                        counts = next;
-                        walk = read_records::reader::past(walk, len);
-                    }
-                }
-            }
-            read_records::reader::Head::Refused(why) => {
-                return Scan::Stopped(why, walk.at);
-            }
-            read_records::reader::Head::End => {
-                return Scan::Laid(counts);
-            }
-        }
+    while let Some(head) = walk.next().map_err(|why| Refused {
+        why,
+        place: walk.at,
+    })? {
+        let fields = walk.fields(head.len);
+        counts = enter(
+            image,
+            fields,
+            kinds,
+            walk.at,
+            head.kind,
+            counts,
+            doms,
+            types,
+            descriptors,
+            filter,
+            terms,
+            marks,
+        )
+        .map_err(|why| Refused {
+            why,
+            place: walk.at,
+        })?;
+        walk = walk.past(head.len);
     }
+    Ok(counts)
 }
 
+// Refused, at a record's offset; or all records are in the tables, so many of each section.
 pub fn scan_records(
     image: &[u8],
     kinds: &[u32],
@@ -172,7 +134,7 @@ pub fn scan_records(
     descriptors: &mut [u32],
     terms: &mut [u16],
     marks: &mut [u8],
-) -> Scan
+) -> Result<Counts, Refused>
     requires { Lent image.now kinds.now doms.old types.old descriptors.old terms.old × (marks.old ≡ replicate term_limit 0) }
     ensures { Scanned result image.now doms.new types.new descriptors.new terms.new marks.new }
 {

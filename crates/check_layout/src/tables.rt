@@ -6,20 +6,15 @@ ghost use Rattle.check_repeats.specs.NewTypes.{Placed};
 ghost use Rattle.check_repeats.specs.Keys.{Filters};
 ghost use Rattle.check_layout.specs.Tables.{PutType};
 
-use read_records::numbers::{DomainNo, TermNo, TypeNo};
+use image::Refusal;
+use read_records::numbers::{Numbered, TypeNo};
 
-pub fn put_domain(at: usize, d: DomainNo, doms: &mut [u16])
-    requires { (at < 65536) × (d.0 < length doms.old) }
-    ensures { doms.new ≡ set doms.old d.0 at }
+// The offset of a record, by its number.
+pub fn put<N: Numbered>(at: usize, n: N, offsets: &mut [u16])
+    requires { (at < 65536) × (N.number n < length offsets.old) }
+    ensures { offsets.new ≡ set offsets.old (N.number n) at }
 {
-    doms[d.0 as usize] = at as u16;
-}
-
-pub fn put_term(at: usize, n: TermNo, terms: &mut [u16])
-    requires { (at < 65536) × (n.0 < length terms.old) }
-    ensures { terms.new ≡ set terms.old n.0 at }
-{
-    terms[n.0 as usize] = at as u16;
+    offsets[usize::from(n.number())] = at as u16;
 }
 
 // 8, and the offset, the descriptor and the key of the type t, which has these fields. A type whose key is none of the earlier
@@ -33,7 +28,7 @@ pub fn put_type(
     types: &mut [u16],
     descriptors: &mut [u32],
     filter: &mut [u32],
-) -> check_ranges::faults::Tested
+) -> Result<(), Refusal>
     requires { (at < 65536) × (t.0 < type_limit) × (t.0 < length types.old) × (t.0 < length descriptors.old) × Filters image.now t.0 types.old descriptors.old filter.old × Placed image.now t.0 types.old }
     ensures { PutType result image.now fields.now at descriptor t.0 types.old descriptors.old filter.old types.new descriptors.new filter.new }
 {
@@ -47,12 +42,12 @@ pub fn put_type(
             types,
             descriptors,
         ) {
-            return check_ranges::faults::Tested::Fault(image::Refusal::RepeatedType);
+            return Err(Refusal::RepeatedType);
         }
     }
-    let i = t.0 as usize;
+    let i = usize::from(t.0);
     types[i] = at as u16;
     descriptors[i] = descriptor;
     check_repeats::keys::put_key(filter, t, key);
-    check_ranges::faults::Tested::Passed
+    Ok(())
 }

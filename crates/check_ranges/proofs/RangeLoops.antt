@@ -1,7 +1,7 @@
 -- Laws of the tests on a record's fields: what a loop over them has tested so far.
-use Prim.Native.Nat.{ℕ, suc, ◌+◌, ◌-◌, ◌*◌, ◌/◌, ◌%◌, ◌<◌}
+use Prim.Native.Nat.{ℕ, suc, ◌+◌, ◌-◌, ◌*◌, ◌/◌, ◌%◌, ◌≤◌, ◌<◌}
 use native.Mathlib.Omega.{arith}
-use native.Mathlib.Nat.{suc-mul}
+use Rattle.std.proofs.Math.Nat.{mul-le-mul_left}
 use native.Mathlib.Numerals.{add-one}
 use mathlib.Core.Path.{◌≡◌, sym, ap, ◌∙◌}
 use mathlib.Core.Bool.{Bool, true, false, ◌&&◌, and-true}
@@ -21,15 +21,20 @@ module _ (fs : List ℕ) (m : Counts) where
   unfolding ranges_from
   range_stop n i cs l h = let e : n - i ≡ suc (n - (i + 1)) = omega arith in rw (e, h)
 
-  -- A group that stands c times.
+  -- A group that stands c times, from field i on, behind the k first times.
   module _ (q cs : ℕ) where
-    pub group_next : (c i : ℕ) → 0 < c → ranges_from q cs fs m i ≡ true → groups_from c q cs fs m i ≡ groups_from (c - 1) q cs fs m (i + q)
+    pub group_next : (c k i : ℕ) → k < c → ranges_from q cs fs m (i + k * q) ≡ true → groups_from (c - k) q cs fs m (i + k * q) ≡ groups_from (c - (k + 1)) q cs fs m (i + (k + 1) * q)
     unfolding groups_from
-    group_next c i l h = let e : c ≡ suc (c - 1) = omega arith in ap (λ k. groups_from k q cs fs m i) e ∙ ap (λ t. t && groups_from (c - 1) q cs fs m (i + q)) h
+    group_next c k i l h =
+        let e : c - k ≡ suc (c - (k + 1)) = omega arith in
+        let f : i + k * q + q ≡ i + (k + 1) * q = omega arith in
+        ap (λ n. groups_from n q cs fs m (i + k * q)) e ∙ ap (λ t. t && groups_from (c - (k + 1)) q cs fs m (i + k * q + q)) h ∙ ap (groups_from (c - (k + 1)) q cs fs m) f
 
-    pub group_stop : (c i : ℕ) → 0 < c → ranges_from q cs fs m i ≡ false → groups_from c q cs fs m i ≡ false
+    pub group_stop : (c k i : ℕ) → k < c → ranges_from q cs fs m i ≡ false → groups_from (c - k) q cs fs m i ≡ false
     unfolding groups_from
-    group_stop c i l h = let e : c ≡ suc (c - 1) = omega arith in ap (λ k. groups_from k q cs fs m i) e ∙ ap (λ t. t && groups_from (c - 1) q cs fs m (i + q)) h
+    group_stop c k i l h =
+        let e : c - k ≡ suc (c - (k + 1)) = omega arith in
+        ap (λ n. groups_from n q cs fs m i) e ∙ ap (λ t. t && groups_from (c - (k + 1)) q cs fs m (i + q)) h
 
   -- A group of one child: the children from field i on, the last standing before field n.
   pub child_next : (n i : ℕ) → i < n → ltb (field_in fs i) m.terms ≡ true → groups_from (n - i) 1 5 fs m i ≡ groups_from (n - (i + 1)) 1 5 fs m (i + 1)
@@ -44,9 +49,9 @@ pub past_next : (n i cs : ℕ) → i < n → classes_past (n - i) cs ≡ classes
 unfolding classes_past
 past_next n i cs l = let e : n - i ≡ suc (n - (i + 1)) = omega arith in rw e
 
--- What stands c times stands once, and c - 1 times more.
-pub once_more : (c q : ℕ) → 0 < c → c * q ≡ (c - 1) * q + q
-once_more c q l = let e : c ≡ suc (c - 1) = omega arith in ap (λ k. k * q) e ∙ suc-mul (c - 1) q
+-- Each of the c times stands before the end.
+pub times_inside : (c k q : ℕ) → k < c → k * q + q ≤ c * q
+times_inside c k q l = omega (arith, mul-le-mul_left q l)
 
 -- Of three tests in turn: where the first or the second fails, and where only the third is left.
 module _ (a b c : Bool) where

@@ -1,5 +1,5 @@
 -- The refusals 4 to 8 (document 01, "Turned back at the gate") as tests on numbers: a kind's code, the counts, the descriptors.
-use Rattle.std.specs.Prelude.{ℕ, ◌+◌, ◌-◌, ◌*◌, ◌/◌, ◌%◌, ◌≤◌, Bool, true, ◌&&◌, List, [], ◌∷◌, length, eqb, ltb, leb}
+use Rattle.std.specs.Prelude.{ℕ, ◌+◌, ◌-◌, ◌*◌, ◌/◌, ◌%◌, ◌≤◌, Bool, true, ◌&&◌, List, [], ◌∷◌, length, eqb, ltb, leb, Result, Ok, Err}
 use Rattle.std.proofs.Math.Option.{Option, none, some}
 use Rattle.image.specs.declared.Refusal.{Refusal}
 use Rattle.image.specs.Limits.{domain_limit, type_limit, term_limit}
@@ -7,7 +7,6 @@ use Rattle.laws.specs.Tests.{all}
 use Rattle.calculus.specs.Combinators.{choose}
 use Rattle.read_records.specs.Codes.{group_of, last_of, least_of, classes_of, section_of, first_of, group_limit, most_of, times_in}
 use Rattle.read_records.specs.declared.numbers.Counts.{Counts}
-use Rattle.check_ranges.specs.declared.faults.Tested.{Tested}
 use Rattle.check_ranges.specs.Ranges.{ranges_from, groups_from, classes_past}
 
 -- 4: whether n is a length for the code x. With a group, the length says how often the group stands; without one, a record may be longer than its known fields (card 1).
@@ -51,6 +50,6 @@ number_tests fs code n =
     ∷ (Refusal.FieldRange, range_fits fs code n)
     ∷ []
 
-abbrev pub told_of : Tested → Option Refusal
-told_of (Tested.Fault r) = some r
-told_of Tested.Passed = none
+abbrev pub told_of : Result (Unit {0}) Refusal → Option Refusal
+told_of (Err r) = some r
+told_of (Ok u) = none

@@ -1,12 +1,12 @@
 -- 4 to 7 of a term (document 01, "Turned back at the gate"), and its marks, which the crate check_uses defines.
-use Rattle.std.specs.Prelude.{ℕ, ◌+◌, ◌≡◌, true, List, length}
+use Rattle.std.specs.Prelude.{ℕ, ◌+◌, ◌≡◌, true, List, length, Result, Ok, Err}
 use Rattle.std.proofs.Math.Option.{none}
 use Rattle.laws.specs.Tests.{first_fault}
 use Rattle.read_records.specs.declared.numbers.Counts.{Counts}
 use Rattle.read_records.specs.Codes.{section_of, Sized}
 use Rattle.read_records.specs.Heads.{children_of, Fitting}
 use Rattle.check_uses.specs.Marks.{Lower, entered}
-use Rattle.check_ranges.specs.declared.faults.Tested.{Tested}
+use Rattle.image.specs.declared.Refusal.{Refusal}
 use Rattle.check_ranges.specs.Numbers.{length_fits, range_fits, number_tests}
 
 -- Fields of a record with the code x, behind so many records: if they pass 7, the children among them are lower terms.
@@ -21,6 +21,6 @@ pub record TermFields (fs : List ℕ) (x : ℕ) (n : Counts) : Type 0 where
   pub lower : none ≡ first_fault (number_tests fs x n) → Lower n.terms (children_of x fs)
 
 -- The marks behind a term that is refused, and behind one that is not, which is n and has the children es.
-abbrev pub marks_behind : Tested → List ℕ → ℕ → List ℕ → List ℕ
-marks_behind (Tested.Fault r) es n ms = ms
-marks_behind Tested.Passed es n ms = entered es n ms
+abbrev pub marks_behind : Result (Unit {0}) Refusal → List ℕ → ℕ → List ℕ → List ℕ
+marks_behind (Err r) es n ms = ms
+marks_behind (Ok u) es n ms = entered es n ms

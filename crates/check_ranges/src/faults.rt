@@ -4,19 +4,13 @@ ghost use Rattle.laws.specs.Tests.{first_fault};
 ghost use Rattle.read_records.specs.Codes.{group_of, section_of, Sized};
 ghost use Rattle.check_ranges.specs.Numbers.{groups_fill, length_fits, order_fits, capacity_fits, number_tests, told_of};
 
-use image::{DOMAIN_LIMIT, POINTCUT_LIMIT, TERM_LIMIT, TYPE_LIMIT};
-use laws::both;
+use crate::ranges::in_range;
+use image::{DOMAIN_LIMIT, POINTCUT_LIMIT, Refusal, TERM_LIMIT, TYPE_LIMIT};
 use read_records::numbers::Counts;
 use read_records::table::TYPES;
 
 // How often a group stands, at most: labels, methods and entries have the same limit.
 const GROUP_LIMIT: usize = POINTCUT_LIMIT;
-
-#[derive(Clone, Copy)]
-pub enum Tested {
-    Fault(image::Refusal),
-    Passed,
-}
 
 // So many bytes are the fields of the group, each time that it stands more often than it must.
 fn groups_fill(code: u32, bytes: usize) -> bool
@@ -26,9 +20,9 @@ fn groups_fill(code: u32, bytes: usize) -> bool
     let most = GROUP_LIMIT - read_records::table::least_times(code);
     let group = read_records::table::group_count(code);
     if group == 1 {
-        return both(bytes % 2 == 0, bytes / 2 <= most);
+        return bytes % 2 == 0 && bytes / 2 <= most;
     }
-    both(bytes % (2 * group) == 0, bytes / (2 * group) <= most)
+    bytes % (2 * group) == 0 && bytes / (2 * group) <= most
 }
 
 // 4: a record has its kind's least length, or is longer: by bytes that are skipped (document 02, card 1), or, where there is
@@ -60,10 +54,7 @@ pub fn in_order(code: u32, counts: Counts) -> bool
     if read_records::table::section_of(code) == TYPES {
         return counts.terms == 0;
     }
-    if counts.types == 0 {
-        return counts.terms == 0;
-    }
-    false
+    counts.types == 0 && counts.terms == 0
 }
 
 // 6
@@ -80,21 +71,21 @@ pub fn has_capacity(code: u32, counts: Counts) -> bool
 }
 
 // 4 to 7 of a record with these fields.
-pub fn first_fault(fields: &[u8], code: u32, counts: Counts) -> Tested
+pub fn first_fault(fields: &[u8], code: u32, counts: Counts) -> Result<(), Refusal>
     requires { (length fields.now ≤ 65535) × Sized code }
     ensures { told_of result ≡ first_fault (number_tests fields.now code counts) }
 {
     if !right_length(code, fields.len() + 4) {
-        return Tested::Fault(image::Refusal::WrongLength);
+        return Err(Refusal::WrongLength);
     }
     if !in_order(code, counts) {
-        return Tested::Fault(image::Refusal::SectionOrder);
+        return Err(Refusal::SectionOrder);
     }
     if !has_capacity(code, counts) {
-        return Tested::Fault(image::Refusal::TooManyRecords);
+        return Err(Refusal::TooManyRecords);
     }
-    if !crate::ranges::in_range(fields, code, counts) {
-        return Tested::Fault(image::Refusal::FieldRange);
+    if !in_range(fields, code, counts) {
+        return Err(Refusal::FieldRange);
     }
-    Tested::Passed
+    Ok(())
 }

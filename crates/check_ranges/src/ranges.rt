@@ -7,7 +7,6 @@ ghost use Rattle.check_ranges.specs.Numbers.{Held, range_fits};
 
 use check_fields::{below, names_domain, names_term, names_type};
 use image::OPERATION_COUNT;
-use laws::both;
 use read_records::numbers::Counts;
 use read_records::table::{
     CLASS_DOMAIN, CLASS_FREE, CLASS_OPERATION, CLASS_TERM, CLASS_TRUTH, CLASS_TYPE, DOMAIN, MASK,
@@ -50,15 +49,12 @@ fn fields_in_range(fields: &[u8], from: usize, count: usize, classes: u32, count
     requires { 2 * (from + count) ≤ length fields.now }
     ensures { result ≡ ranges_from count classes fields.now counts from }
 {
-    let end = from + count;
     let mut rest = classes;
-    let mut i = from;
-    while i < end {
+    for i in from..from + count {
         if !in_class(rest % 8, fields, i, counts) {
             return false;
         }
-        rest = rest / 8;
-        i += 1;
+        rest /= 8;
     }
     true
 }
@@ -75,7 +71,7 @@ fn few_in_range(fields: &[u8], from: usize, count: usize, classes: u32, counts: 
     if count == 1 {
         return first;
     }
-    both(first, in_class(classes / 8 % 8, fields, from + 1, counts))
+    first & in_class(classes / 8 % 8, fields, from + 1, counts)
 }
 
 // A group of up to two fields that stands so many times from a place on.
@@ -90,14 +86,10 @@ fn groups_in_range(
     requires { (group ≤ 2) × (2 * (from + times * group) ≤ length fields.now) }
     ensures { result ≡ groups_from times group classes fields.now counts from }
 {
-    let mut i = from;
-    let mut left = times;
-    while 0 < left {
-        if !few_in_range(fields, i, group, classes, counts) {
+    for k in 0..times {
+        if !few_in_range(fields, from + k * group, group, classes, counts) {
             return false;
         }
-        i += group;
-        left -= 1;
     }
     true
 }
@@ -106,13 +98,10 @@ fn groups_in_range(
 pub fn children_in_range(fields: &[u8], from: usize, counts: Counts) -> bool
     ensures { result ≡ groups_from (length fields.now / 2 - from) 1 5 fields.now counts from }
 {
-    let n = fields.len() / 2;
-    let mut i = from;
-    while i < n {
+    for i in from..fields.len() / 2 {
         if !names_term(fields, i, counts) {
             return false;
         }
-        i += 1;
     }
     true
 }
@@ -122,10 +111,8 @@ fn classes_past(n: usize, classes: u32) -> u32
     ensures { result ≡ classes_past n classes }
 {
     let mut rest = classes;
-    let mut i: usize = 0;
-    while i < n {
-        rest = rest / 8;
-        i += 1;
+    for _ in 0..n {
+        rest /= 8;
     }
     rest
 }
@@ -169,18 +156,12 @@ pub fn in_range(fields: &[u8], code: u32, counts: Counts) -> bool
 {
     match code {
         MASK | NO_FIELDS => true,
-        TYPE_AND_DOMAIN => both(
-            names_type(fields, 0, counts),
-            names_domain(fields, 1, counts),
-        ),
-        TYPE_DOMAIN_AND_TYPE => both(
-            names_type(fields, 0, counts),
-            both(
-                names_domain(fields, 1, counts),
-                names_type(fields, 2, counts),
-            ),
-        ),
-        TWO_TYPES => both(names_type(fields, 0, counts), names_type(fields, 1, counts)),
+        TYPE_AND_DOMAIN => names_type(fields, 0, counts) & names_domain(fields, 1, counts),
+        TYPE_DOMAIN_AND_TYPE => {
+            names_type(fields, 0, counts)
+                & (names_domain(fields, 1, counts) & names_type(fields, 2, counts))
+        }
+        TWO_TYPES => names_type(fields, 0, counts) & names_type(fields, 1, counts),
         DOMAIN => names_domain(fields, 0, counts),
         _ => all_in_range(fields, code, counts),
     }

@@ -1,5 +1,5 @@
 // 4 to 7 of a term, and its marks: those of its children, which are used once more, and its own, the height. A frequent kind has
-// both in straight line, since its fields are known from the code.
+// both in straight line, since its fields are known from the code: & joins the tests without a branch between them.
 ghost use Rattle.std.specs.Prelude.{◌≡◌, ◌-◌, ◌/◌, ◌≤◌, ◌<◌, true, ◌&&◌, [], ◌∷◌, length, ltb};
 ghost use Rattle.image.specs.Limits.{operation_count, term_limit};
 ghost use Rattle.calculus.specs.Combinators.{choose};
@@ -12,11 +12,11 @@ ghost use Rattle.check_ranges.specs.Ranges.{groups_from};
 ghost use Rattle.check_ranges.specs.Numbers.{Held, range_fits, number_tests, told_of};
 ghost use Rattle.check_ranges.specs.Terms.{ChildrenLower, TermFields, marks_behind};
 
-use crate::faults::Tested;
+use crate::faults::{has_capacity, right_length};
 use crate::ranges::{OPERATIONS, all_in_range, children_in_range};
 use check_fields::{below, names_domain, names_term, names_type};
 use check_uses::children::{enter_children, enter_leaf, enter_one, enter_three, enter_two};
-use laws::both;
+use image::Refusal;
 use read_records::fields::field_as;
 use read_records::numbers::Counts;
 use read_records::table::{
@@ -42,7 +42,7 @@ fn take_one(fields: &[u8], counts: Counts, marks: &mut [u8]) -> bool
     requires { (4 ≤ length fields.now) × Few counts × (counts.terms < length marks.old) }
     ensures { (result ≡ (ltb (field_in fields.now 0) counts.types && ltb (field_in fields.now 1) counts.terms)) × (marks.new ≡ choose result (entered (field_in fields.now 1 ∷ []) counts.terms marks.old) marks.old) }
 {
-    let ok = both(names_type(fields, 0, counts), names_term(fields, 1, counts));
+    let ok = names_type(fields, 0, counts) & names_term(fields, 1, counts);
     if ok {
         enter_one(marks, counts.next(), field_as(fields, 1));
     }
@@ -53,10 +53,8 @@ fn take_two(fields: &[u8], counts: Counts, marks: &mut [u8]) -> bool
     requires { (6 ≤ length fields.now) × Few counts × (counts.terms < length marks.old) }
     ensures { (result ≡ (ltb (field_in fields.now 0) counts.types && (ltb (field_in fields.now 1) counts.terms && ltb (field_in fields.now 2) counts.terms))) × (marks.new ≡ choose result (entered (field_in fields.now 1 ∷ field_in fields.now 2 ∷ []) counts.terms marks.old) marks.old) }
 {
-    let ok = both(
-        names_type(fields, 0, counts),
-        both(names_term(fields, 1, counts), names_term(fields, 2, counts)),
-    );
+    let ok = names_type(fields, 0, counts)
+        & (names_term(fields, 1, counts) & names_term(fields, 2, counts));
     if ok {
         enter_two(
             marks,
@@ -72,13 +70,9 @@ fn take_three(fields: &[u8], counts: Counts, marks: &mut [u8]) -> bool
     requires { (8 ≤ length fields.now) × Few counts × (counts.terms < length marks.old) }
     ensures { (result ≡ (ltb (field_in fields.now 0) counts.types && (ltb (field_in fields.now 1) counts.terms && (ltb (field_in fields.now 2) counts.terms && ltb (field_in fields.now 3) counts.terms)))) × (marks.new ≡ choose result (entered (field_in fields.now 1 ∷ field_in fields.now 2 ∷ field_in fields.now 3 ∷ []) counts.terms marks.old) marks.old) }
 {
-    let ok = both(
-        names_type(fields, 0, counts),
-        both(
-            names_term(fields, 1, counts),
-            both(names_term(fields, 2, counts), names_term(fields, 3, counts)),
-        ),
-    );
+    let ok = names_type(fields, 0, counts)
+        & (names_term(fields, 1, counts)
+            & (names_term(fields, 2, counts) & names_term(fields, 3, counts)));
     if ok {
         enter_three(
             marks,
@@ -96,13 +90,9 @@ fn take_operation(fields: &[u8], counts: Counts, marks: &mut [u8]) -> bool
     requires { (8 ≤ length fields.now) × Few counts × (counts.terms < length marks.old) }
     ensures { (result ≡ (ltb (field_in fields.now 0) counts.types && (ltb (field_in fields.now 1) operation_count && (ltb (field_in fields.now 2) counts.terms && ltb (field_in fields.now 3) counts.terms)))) × (marks.new ≡ choose result (entered (field_in fields.now 2 ∷ field_in fields.now 3 ∷ []) counts.terms marks.old) marks.old) }
 {
-    let ok = both(
-        names_type(fields, 0, counts),
-        both(
-            below(fields, 1, OPERATIONS),
-            both(names_term(fields, 2, counts), names_term(fields, 3, counts)),
-        ),
-    );
+    let ok = names_type(fields, 0, counts)
+        & (below(fields, 1, OPERATIONS)
+            & (names_term(fields, 2, counts) & names_term(fields, 3, counts)));
     if ok {
         enter_two(
             marks,
@@ -119,13 +109,8 @@ fn take_lowered(fields: &[u8], counts: Counts, marks: &mut [u8]) -> bool
     requires { (6 ≤ length fields.now) × Few counts × (counts.terms < length marks.old) }
     ensures { (result ≡ (ltb (field_in fields.now 0) counts.types && (ltb (field_in fields.now 1) counts.domains && ltb (field_in fields.now 2) counts.terms))) × (marks.new ≡ choose result (entered (field_in fields.now 2 ∷ []) counts.terms marks.old) marks.old) }
 {
-    let ok = both(
-        names_type(fields, 0, counts),
-        both(
-            names_domain(fields, 1, counts),
-            names_term(fields, 2, counts),
-        ),
-    );
+    let ok = names_type(fields, 0, counts)
+        & (names_domain(fields, 1, counts) & names_term(fields, 2, counts));
     if ok {
         enter_one(marks, counts.next(), field_as(fields, 2));
     }
@@ -137,10 +122,7 @@ fn take_group(fields: &[u8], code: u32, counts: Counts, marks: &mut [u8]) -> boo
     requires { (2 ≤ length fields.now) × Fitting code fields.now × ((ltb (field_in fields.now 0) counts.types && groups_from (length fields.now / 2 - 1) 1 5 fields.now counts 1) ≡ true → Lower counts.terms (children_of code fields.now)) × Few counts × (counts.terms < length marks.old) }
     ensures { (result ≡ (ltb (field_in fields.now 0) counts.types && groups_from (length fields.now / 2 - 1) 1 5 fields.now counts 1)) × (marks.new ≡ choose result (entered (children_of code fields.now) counts.terms marks.old) marks.old) }
 {
-    let ok = both(
-        names_type(fields, 0, counts),
-        children_in_range(fields, 1, counts),
-    );
+    let ok = names_type(fields, 0, counts) & children_in_range(fields, 1, counts);
     if ok {
         enter_children(fields, code, counts.next(), marks);
     }
@@ -177,18 +159,18 @@ fn take(fields: &[u8], code: u32, counts: Counts, marks: &mut [u8]) -> bool
 }
 
 // 4 to 7, in their order; 5 refuses no term.
-pub fn term_fault(fields: &[u8], code: u32, counts: Counts, marks: &mut [u8]) -> Tested
+pub fn term_fault(fields: &[u8], code: u32, counts: Counts, marks: &mut [u8]) -> Result<(), Refusal>
     requires { (length fields.now ≤ 65535) × TermFields fields.now code counts × Few counts × (term_limit ≤ length marks.old) }
     ensures { (told_of result ≡ first_fault (number_tests fields.now code counts)) × (marks.new ≡ marks_behind result (children_of code fields.now) counts.terms marks.old) }
 {
-    if !crate::faults::right_length(code, fields.len() + 4) {
-        return Tested::Fault(image::Refusal::WrongLength);
+    if !right_length(code, fields.len() + 4) {
+        return Err(Refusal::WrongLength);
     }
-    if !crate::faults::has_capacity(code, counts) {
-        return Tested::Fault(image::Refusal::TooManyRecords);
+    if !has_capacity(code, counts) {
+        return Err(Refusal::TooManyRecords);
     }
     if !take(fields, code, counts, marks) {
-        return Tested::Fault(image::Refusal::FieldRange);
+        return Err(Refusal::FieldRange);
     }
-    Tested::Passed
+    Ok(())
 }

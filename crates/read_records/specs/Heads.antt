@@ -1,5 +1,5 @@
 -- What stands at an offset (document 01, "The image"): what the record reader answers (refusal 2), and what stands where in a record's fields.
-use Rattle.std.specs.Prelude.{ℕ, ◌+◌, ◌-◌, ◌*◌, ◌≤◌, List, [], ◌∷◌, ◌++◌, length, take, drop, leb}
+use Rattle.std.specs.Prelude.{ℕ, ◌+◌, ◌-◌, ◌*◌, ◌≤◌, List, [], ◌∷◌, ◌++◌, length, take, drop, leb, Option, Some, None, Result, Ok, Err}
 use Rattle.calculus.specs.Combinators.{choose}
 use Rattle.image.specs.declared.Refusal.{Refusal}
 use Rattle.image.specs.Bytes.{le16, words, length_at, number_at}
@@ -9,11 +9,14 @@ use Rattle.image.specs.Layout.{framed}
 use Rattle.read_records.specs.declared.reader.Head.{Head}
 use Rattle.read_records.specs.Codes.{count_of, children_in, entries_in}
 
--- A whole record, a refusal, or the end.
-abbrev pub head_at : List ℕ → ℕ → Head
+-- A whole record of n bytes and of kind k; the end; or a refusal.
+abbrev pub a_record : ℕ → ℕ → Result (Option Head) Refusal
+a_record n k = Ok (Some (record { len = n; kind = k }))
+
+abbrev pub head_at : List ℕ → ℕ → Result (Option Head) Refusal
 head_at b o =
-    choose (leb (length b) o) Head.End
-    (choose (framed b o) (Head.Record (length_at b o) (number_at b o)) (Head.Refused Refusal.BrokenRecord))
+    choose (leb (length b) o) (Ok None)
+    (choose (framed b o) (a_record (length_at b o) (number_at b o)) (Err Refusal.BrokenRecord))
 
 -- The bytes that the fields of a record of n bytes at o occupy.
 abbrev pub field_bytes : List ℕ → ℕ → ℕ → List ℕ

@@ -1,9 +1,10 @@
 // The record reader (document 01, "The image": "A walk keeps the lent image and the offset of its next record, and hands
 // each record's fields on as the part of the image that they occupy"). The loop over the records keeps a Walk in a local
 // (check_layout, scan_with): it asks for the next head and the fields, and goes on past the record.
-ghost use Rattle.std.specs.Prelude.{◌≡◌, ◌+◌, ◌<◌, ◌≤◌, ◌^◌, length, take, drop, ltb};
-ghost use Rattle.calculus.specs.Combinators.{choose};
+ghost use Rattle.std.specs.Prelude.{◌≡◌, ◌+◌, ◌<◌, ◌≤◌, ◌^◌, length, take, drop};
 ghost use Rattle.read_records.specs.Heads.{head_at, field_bytes, IsWhole, fields_at};
+
+use image::Refusal;
 
 #[derive(Clone, Copy)]
 pub struct Walk<'a> {
@@ -11,35 +12,32 @@ pub struct Walk<'a> {
     pub at: usize,
 }
 
-// What stands at an offset: a whole record, with its length and its kind's number; a refusal; nothing more.
+// A whole record's length and its kind's number.
 #[derive(Clone, Copy)]
-pub enum Head {
-    Record { len: usize, kind: u16 },
-    Refused(image::Refusal),
-    End,
+pub struct Head {
+    pub len: usize,
+    pub kind: u16,
 }
 
-pub fn head_of(image: &[u8], at: usize) -> Head
+// What stands at an offset: a whole record, or nothing more; or the image is refused there.
+pub fn head_of(image: &[u8], at: usize) -> Result<Option<Head>, Refusal>
     ensures { result ≡ head_at image.now at }
 {
     if image.len() <= at {
-        return Head::End;
+        return Ok(None);
     }
     if image.len() - at < 4 {
-        return Head::Refused(image::Refusal::BrokenRecord);
+        return Err(Refusal::BrokenRecord);
     }
-    let len = crate::words::word(image, at) as usize;
+    let len = usize::from(crate::words::word(image, at));
     if len < 4 {
-        return Head::Refused(image::Refusal::BrokenRecord);
+        return Err(Refusal::BrokenRecord);
     }
     if image.len() - at < len {
-        return Head::Refused(image::Refusal::BrokenRecord);
+        return Err(Refusal::BrokenRecord);
     }
     let kind = crate::words::word(image, at + 2);
-    Head::Record {
-        len: len,
-        kind: kind,
-    }
+    Ok(Some(Head { len, kind }))
 }
 
 // The fields of a record of len bytes: the part of the image that they occupy, not a copy. It may be longer than the kind
@@ -53,36 +51,38 @@ pub fn fields_of(image: &[u8], at: usize, len: usize) -> &[u8]
     &image[a..e]
 }
 
-// A walk whose next record is at an offset.
-pub fn new<'a>(image: &'a [u8], at: usize) -> Walk<'a>
-    ensures { (result.image ≡ image.entry) × (result.at ≡ at) }
-{
-    Walk { image, at }
-}
+impl<'a> Walk<'a> {
+    // A walk whose next record is at an offset.
+    pub fn new(image: &'a [u8], at: usize) -> Walk<'a>
+        ensures { (result.image ≡ image.entry) × (result.at ≡ at) }
+    {
+        Walk { image, at }
+    }
 
-// What the walk stands at.
-pub fn next<'a>(w: Walk<'a>) -> Head
-    ensures { result ≡ head_at w.entry.image.now w.entry.at }
-{
-    head_of(w.image, w.at)
-}
+    // What the walk stands at.
+    pub fn next(self) -> Result<Option<Head>, Refusal>
+        ensures { result ≡ head_at self.entry.image.now self.entry.at }
+    {
+        head_of(self.image, self.at)
+    }
 
-// The fields of the record of len bytes that the walk stands at.
-pub fn fields<'a>(w: Walk<'a>, len: usize) -> &'a [u8]
-    requires { (4 ≤ len) × (w.at + len ≤ length w.image.now) }
-    ensures { result.now ≡ field_bytes w.entry.image.now w.entry.at len }
-{
-    fields_of(w.image, w.at, len)
-}
+    // The fields of the record of len bytes that the walk stands at.
+    pub fn fields(self, len: usize) -> &'a [u8]
+        requires { (4 ≤ len) × (self.at + len ≤ length self.image.now) }
+        ensures { result.now ≡ field_bytes self.entry.image.now self.entry.at len }
+    {
+        fields_of(self.image, self.at, len)
+    }
 
-// The walk past the record of len bytes that it stands at.
-pub fn past<'a>(w: Walk<'a>, len: usize) -> Walk<'a>
-    requires { w.at + len < 2 ^ 64 }
-    ensures { (result.image ≡ w.entry.image) × (result.at ≡ w.entry.at + len) }
-{
-    Walk {
-        image: w.image,
-        at: w.at + len,
+    // The walk past the record of len bytes that it stands at.
+    pub fn past(self, len: usize) -> Walk<'a>
+        requires { self.at + len < 2 ^ 64 }
+        ensures { (result.image ≡ self.entry.image) × (result.at ≡ self.entry.at + len) }
+    {
+        Walk {
+            at: self.at + len,
+            ..self
+        }
     }
 }
 
@@ -91,7 +91,7 @@ pub fn fields_from(image: &[u8], at: usize, len: usize) -> &[u8]
     requires { (4 ≤ len) × (at + len ≤ length image.now) }
     ensures { result.now ≡ field_bytes image.now at len }
 {
-    fields(new(image, at), len)
+    Walk::new(image, at).fields(len)
 }
 
 // The fields of the record at an offset where a whole record stands.
@@ -99,14 +99,8 @@ pub fn fields_at(image: &[u8], at: usize) -> &[u8]
     requires { IsWhole image.now at }
     ensures { result.now ≡ fields_at image.now at }
 {
-    let len = crate::words::word(image, at) as usize;
+    let len = usize::from(crate::words::word(image, at));
     fields_from(image, at, len)
-}
-
-fn least(a: usize, b: usize) -> usize
-    ensures { (result ≡ choose (ltb a b) a b) × (result ≤ a) × (result ≤ b) }
-{
-    if a < b { a } else { b }
 }
 
 // At most n bytes of the image from an offset on: the part of a term's fields that the term's code word names. The words of the
@@ -115,7 +109,7 @@ pub fn part(image: &[u8], at: usize, n: usize) -> &[u8]
     ensures { result.now ≡ take n (drop at image.now) }
 {
     let end = image.len();
-    let a = least(at, end);
-    let e = a + least(n, end - a);
+    let a = at.min(end);
+    let e = a + n.min(end - a);
     &image[a..e]
 }

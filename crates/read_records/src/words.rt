@@ -1,19 +1,13 @@
 // The 16-bit numbers of an image: little-endian.
-ghost use Rattle.std.specs.Prelude.{◌≡◌, ◌+◌, ◌*◌, ◌<◌, length};
+ghost use Rattle.std.specs.Prelude.{◌≡◌, ◌+◌, ◌<◌, length};
 ghost use Rattle.image.specs.Bytes.{le16, number_at};
-
-pub fn join16(lo: u8, hi: u8) -> u16
-    ensures { result ≡ lo + 256 * hi }
-{
-    (lo as u16) + 256 * (hi as u16)
-}
 
 // The number at an offset.
 pub fn word(s: &[u8], at: usize) -> u16
     requires { at + 1 < length s.now }
     ensures { result ≡ le16 s.now at }
 {
-    join16(s[at], s[at + 1])
+    u16::from_le_bytes([s[at], s[at + 1]])
 }
 
 // The kind's number of the record at an offset.

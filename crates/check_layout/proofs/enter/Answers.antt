@@ -1,12 +1,13 @@
 -- `check_layout::enter` meets its contract: what is known at each place goes to the laws of one record (`Entering`).
+use Rattle.std.specs.Prelude.{Result}
 use Prim.Native.Nat.{ℕ}
 use native.Mathlib.Omega.{arith}
 use mathlib.Core.Path.{◌≡◌, sym, ap, subst, ◌∙◌}
 use mathlib.Core.Bool.{Bool, true, false}
 use mathlib.Core.List.{List}
 use lib.Dec.{eqb}
+use Rattle.image.specs.declared.Refusal.{Refusal}
 use Rattle.read_records.specs.declared.numbers.Counts.{Counts}
-use Rattle.check_ranges.specs.declared.faults.Tested.{Tested}
 use Rattle.laws.specs.Tests.{first_fault}
 use Rattle.laws.proofs.Booleans.{no_path, eq_of, of_eq}
 use lib.ListN.{length}
@@ -16,6 +17,7 @@ use Rattle.read_records.proofs.Heads.{whole_of}
 use Rattle.check_fields.specs.Fields.{type_count, DescriptorFrom}
 use Rattle.check_ranges.specs.Numbers.{number_tests, told_of}
 use Rattle.check_ranges.specs.Terms.{TermFields}
+use Rattle.std.proofs.lemmas.Result.{err_from_is_err_and}
 use Rattle.check_layout.proofs.Entering.{full, placed, unknown_entry, fault_entry, kind_narrow, fields_narrow, type_held, domain_capacity, type_capacity, domain_entry, repeated_entry, type_entry, marks_long, term_fields_lem, term_answer}
 use Rattle.check_layout.proofs.enter.Goals as goal
 
@@ -30,7 +32,7 @@ no_term : {x y : ℕ} {r : Bool} → x ≡ y → r ≡ eqb (section_of x) 3 → 
 no_term e h f s = no_path (sym (h ∙ of_eq (ap section_of e ∙ s)) ∙ f)
 
 -- What 4 to 7 answer, by the kind's code.
-told : (fs : List ℕ) (n : Counts) {t t' : Tested} {x y : ℕ} → t ≡ t' → x ≡ y → told_of t ≡ first_fault (number_tests fs x n) → told_of t' ≡ first_fault (number_tests fs y n)
+told : (fs : List ℕ) (n : Counts) {t t' : Result (Unit {0}) Refusal} {x y : ℕ} → t ≡ t' → x ≡ y → told_of t ≡ first_fault (number_tests fs x n) → told_of t' ≡ first_fault (number_tests fs y n)
 told fs n i e h = ap told_of (sym i) ∙ (h ∙ ap (λ z. first_fault (number_tests fs z n)) e)
 
 -- A type's section and its descriptor.
@@ -61,8 +63,8 @@ returns-then-is_term c =
 pub returns-then-code-eq0 : goal.returns-then-code-eq0
 returns-then-code-eq0 c = record { entered = λ n R. unknown_entry R (sym c.code_of-code.ensures ∙ c.if-code-eq0.true) }
 
-pub first_fault-tested-requires : goal.first_fault-tested-requires
-first_fault-tested-requires c =
+pub first_fault-requires : goal.first_fault-requires
+first_fault-requires c =
     let a = c.args in
     let R = c.requires.is in
     let W = whole_of a.image.now a.at c.requires.len a.kind R.head in
@@ -70,26 +72,27 @@ first_fault-tested-requires c =
     let z = full R in
     (omega arith, subst Sized (sym c.code_of-code.ensures) (code_sized a.kind (λ e. c.if-code-eq0.false (c.code_of-code.ensures ∙ e))))
 
-pub returns-in-Fault : goal.returns-in-Fault
-returns-in-Fault c =
-    record { entered = λ n R. fault_entry R (λ e. c.if-code-eq0.false (c.code_of-code.ensures ∙ e)) _ (told _ _ c.in-Fault.is c.code_of-code.ensures c.first_fault-tested.ensures) }
+pub returns-in_err-first_fault : goal.returns-in_err-first_fault
+returns-in_err-first_fault c =
+    let p = err_from_is_err_and c.from_residual.result c.from_residual.ensures.1 in
+    rw (p.1, p.2) (record { entered = λ n R. fault_entry R (λ e. c.if-code-eq0.false (c.code_of-code.ensures ∙ e)) _ (told _ _ c.in_err-first_fault.was c.code_of-code.ensures c.first_fault.ensures) })
 
 pub descriptor_of-descriptor-requires : goal.descriptor_of-descriptor-requires
 descriptor_of-descriptor-requires c =
     let e = c.code_of-code.ensures in
     let R = c.requires.is in
     let u : code_at c.args.kind ≡ 0 → ⊥ = λ z. c.if-code-eq0.false (e ∙ z) in
-    let p = told _ _ c.in-Passed.is e c.first_fault-tested.ensures in
+    let p = told _ _ c.in_ok-first_fault.was e c.first_fault.ensures in
     let s = typed e c.section_of.ensures c.if-section_of-eq-TYPES.true in
     (rw e (type_held R u p s), kind_narrow R u p, rw e (fields_narrow R u p s))
 
-pub put_type-new-requires : goal.put_type-new-requires
-put_type-new-requires c =
+pub put_type-requires : goal.put_type-requires
+put_type-requires c =
     let a = c.args in
     let e = c.code_of-code.ensures in
     let R = c.requires.is in
     let u : code_at c.args.kind ≡ 0 → ⊥ = λ z. c.if-code-eq0.false (e ∙ z) in
-    let p = told _ _ c.in-Passed.is e c.first_fault-tested.ensures in
+    let p = told _ _ c.in_ok-first_fault.was e c.first_fault.ensures in
     let W = whole_of a.image.now a.at c.requires.len a.kind R.head in
     let h = R.short in
     let r = type_capacity R u p (typed e c.section_of.ensures c.if-section_of-eq-TYPES.true) in
@@ -98,32 +101,33 @@ put_type-new-requires c =
     let n = c.next.ensures in
     (omega arith, rw n r, omega arith, omega arith, rw n R.filter, rw n (placed R))
 
-pub returns-in-Fault-new : goal.returns-in-Fault-new
-returns-in-Fault-new c =
+pub returns-in_err-put_type : goal.returns-in_err-put_type
+returns-in_err-put_type c =
     let e = c.code_of-code.ensures in
     let u : code_at c.args.kind ≡ 0 → ⊥ = λ z. c.if-code-eq0.false (e ∙ z) in
-    let p = told _ _ c.in-Passed.is e c.first_fault-tested.ensures in
+    let p = told _ _ c.in_ok-first_fault.was e c.first_fault.ensures in
     let s = typed e c.section_of.ensures c.if-section_of-eq-TYPES.true in
-    record { entered = λ q R. repeated_entry R u p s (described e c.descriptor_of-descriptor.ensures) (rw c.next.ensures at c.put_type-new.ensures) c.in-Fault-new.is }
+    let g = err_from_is_err_and c.from_residual-in_err-put_type.result c.from_residual-in_err-put_type.ensures.1 in
+    rw (g.1, g.2) (record { entered = λ q R. repeated_entry R u p s (described e c.descriptor_of-descriptor.ensures) (rw c.next.ensures at c.put_type.ensures) c.in_err-put_type.was })
 
 pub with_one-requires : goal.with_one-requires
 with_one-requires c = c.requires.is.tables.few
 
-pub returns-in-Passed-new : goal.returns-in-Passed-new
-returns-in-Passed-new c =
+pub returns-then-section_of-eq-TYPES : goal.returns-then-section_of-eq-TYPES
+returns-then-section_of-eq-TYPES c =
     let e = c.code_of-code.ensures in
     let u : code_at c.args.kind ≡ 0 → ⊥ = λ z. c.if-code-eq0.false (e ∙ z) in
-    let p = told _ _ c.in-Passed.is e c.first_fault-tested.ensures in
+    let p = told _ _ c.in_ok-first_fault.was e c.first_fault.ensures in
     let s = typed e c.section_of.ensures c.if-section_of-eq-TYPES.true in
-    record { entered = λ q R. rw c.with_one.ensures (type_entry R u p s (described e c.descriptor_of-descriptor.ensures) (rw c.next.ensures at c.put_type-new.ensures) c.in-Passed-new.is) }
+    record { entered = λ q R. rw c.with_one.ensures (type_entry R u p s (described e c.descriptor_of-descriptor.ensures) (rw c.next.ensures at c.put_type.ensures) c.in_ok-put_type.was) }
 
-pub put_domain-requires : goal.put_domain-requires
-put_domain-requires c =
+pub put-requires : goal.put-requires
+put-requires c =
     let a = c.args in
     let e = c.code_of-code.ensures in
     let R = c.requires.is in
     let u : code_at c.args.kind ≡ 0 → ⊥ = λ z. c.if-code-eq0.false (e ∙ z) in
-    let p = told _ _ c.in-Passed.is e c.first_fault-tested.ensures in
+    let p = told _ _ c.in_ok-first_fault.was e c.first_fault.ensures in
     let W = whole_of a.image.now a.at c.requires.len a.kind R.head in
     let h = R.short in
     let r = domain_capacity R u p (no_term e c.is_term.ensures c.if-is_term.false) (untyped e c.section_of.ensures c.if-section_of-eq-TYPES.false) in
@@ -135,5 +139,5 @@ pub returns : goal.returns
 returns c =
     let e = c.code_of-code.ensures in
     let u : code_at c.args.kind ≡ 0 → ⊥ = λ z. c.if-code-eq0.false (e ∙ z) in
-    let p = told _ _ c.in-Passed.is e c.first_fault-tested.ensures in
-    record { entered = λ q R. rw (c.with_one-2.ensures, c.put_domain.ensures, c.next-2.ensures) (domain_entry R u p (no_term e c.is_term.ensures c.if-is_term.false) (untyped e c.section_of.ensures c.if-section_of-eq-TYPES.false)) }
+    let p = told _ _ c.in_ok-first_fault.was e c.first_fault.ensures in
+    record { entered = λ q R. rw (c.with_one-2.ensures, c.put.ensures, c.next-2.ensures) (domain_entry R u p (no_term e c.is_term.ensures c.if-is_term.false) (untyped e c.section_of.ensures c.if-section_of-eq-TYPES.false)) }

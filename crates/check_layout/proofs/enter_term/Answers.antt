@@ -5,13 +5,13 @@ use Rattle.image.specs.Limits.{term_limit}
 use Rattle.check_layout.proofs.Marked.{term_passed, passed_capacity}
 use Rattle.check_layout.proofs.enter_term.Goals as goal
 
-pub put_term-requires : goal.put_term-requires
-put_term-requires c =
+pub put-requires : goal.put-requires
+put-requires c =
     let p = c.requires in
-    let r : c.args.counts.terms < term_limit = passed_capacity c.args.fields.now c.args.code c.args.counts c.term_fault-tested.result c.term_fault-tested.ensures.0 c.in-Passed.is p.0.term in
+    let r : c.args.counts.terms < term_limit = passed_capacity c.args.fields.now c.args.code c.args.counts c.term_fault.result c.term_fault.ensures.0 c.in_ok-term_fault.was p.0.term in
     let l = p.4 in
     (p.2, omega (arith, c.next.ensures))
 
-pub returns-in-Passed : goal.returns-in-Passed
-returns-in-Passed c =
-    term_passed _ _ _ _ c.term_fault-tested.ensures.0 c.in-Passed.is c.with_one.ensures (rw c.next.ensures at c.put_term.ensures) c.term_fault-tested.ensures.1
+pub returns : goal.returns
+returns c =
+    term_passed _ _ _ _ c.term_fault.ensures.0 c.in_ok-term_fault.was c.with_one.ensures (rw c.next.ensures at c.put.ensures) c.term_fault.ensures.1

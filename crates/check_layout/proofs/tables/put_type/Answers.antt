@@ -24,4 +24,4 @@ returns c =
       | then-has_key+else-not-is_new_type w ↦ yes_of _ _ w.is_new_type.ensures w.if-not-is_new_type.false
       | else-has_key w ↦ new_by_key c.requires.4 a.fields.now a.descriptor (unlike w.if-has_key.false)
     ] in
-    record { answer = not_repeated _ h; types = rw h; descriptors = rw h; filter = rw h (c.put_key.ensures ∙ ap (with_key a.filter.now a.t.0) c.key_of-key.ensures) }
+    record { answer = not_repeated _ h; types = rw (c.from-i.ensures, h); descriptors = rw (c.from-i.ensures, h); filter = rw h (c.put_key.ensures ∙ ap (with_key a.filter.now a.t.0) c.key_of-key.ensures) }

@@ -13,9 +13,9 @@ unfolding all
 returns-then-counts-eq0 c =
     simp (sym c.is_term.ensures ∙ c.if-is_term.false, ne_eqb _ _ (λ e. c.if-section_of-eq-TYPES.false (c.section_of.ensures ∙ e)), eq-eqb _ _ c.if-counts-eq0.true, and-true)
 
-pub returns : goal.returns
+pub returns-else-counts-eq0 : goal.returns-else-counts-eq0
 unfolding all
-returns c = simp (sym c.is_term.ensures ∙ c.if-is_term.false, ne_eqb _ _ (λ e. c.if-section_of-eq-TYPES.false (c.section_of.ensures ∙ e)), ne_eqb _ _ c.if-counts-eq0.false)
+returns-else-counts-eq0 c = simp (sym c.is_term.ensures ∙ c.if-is_term.false, ne_eqb _ _ (λ e. c.if-section_of-eq-TYPES.false (c.section_of.ensures ∙ e)), ne_eqb _ _ c.if-counts-eq0.false)
 
 pub returns-then-is_term : goal.returns-then-is_term
 returns-then-is_term c = simp (sym c.is_term.ensures ∙ c.if-is_term.true)

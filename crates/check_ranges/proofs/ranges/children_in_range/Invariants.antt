@@ -6,7 +6,4 @@ use Rattle.check_ranges.specs.Ranges.{groups_from}
 use Rattle.check_ranges.proofs.ranges.children_in_range.Given as goal
 
 abbrev pub invariant-loop-i : goal.invariant-loop-i
-invariant-loop-i l = groups_from (length l.fields / 2 - l.from) 1 5 l.fields l.counts l.from ≡ groups_from (l.n - l.i) 1 5 l.fields l.counts l.i
-
-abbrev pub decreases-loop-i : goal.decreases-loop-i
-decreases-loop-i l = l.n - l.i
+invariant-loop-i l = groups_from (length l.fields / 2 - l.from) 1 5 l.fields l.counts l.from ≡ groups_from (l.i-end - l.i) 1 5 l.fields l.counts l.i

@@ -7,14 +7,14 @@ use Rattle.check_ranges.proofs.RangeLoops.{past_next}
 use borrow.Author.Rules.{rules}
 use Rattle.check_ranges.proofs.ranges.classes_past.Goals as goal
 
-pub loop-i-preserved : goal.loop-i-preserved
-loop-i-preserved c = (search rules, c.loop-i.invariant.1 ∙ past_next _ c.loop-i.i c.loop-i.rest (search rules))
+pub loop-preserved : goal.loop-preserved
+loop-preserved c = c.loop.invariant ∙ past_next _ c.loop.counter c.loop.rest (search rules)
 
 pub returns : goal.returns
 unfolding classes_past
 returns c =
-    let e : c.args.n - c.loop-i.i ≡ 0 = search rules in
-    sym (c.loop-i.invariant.1 ∙ rw e)
+    let e : c.args.n - c.loop.counter ≡ 0 = search rules in
+    sym (c.loop.invariant ∙ rw e)
 
-pub loop-i-init : goal.loop-i-init
-loop-i-init c = let e : c.args.n - 0 ≡ c.args.n = omega arith in (search rules, rw e)
+pub loop-init : goal.loop-init
+loop-init c = let e : c.args.n - 0 ≡ c.args.n = omega arith in rw e

@@ -18,4 +18,4 @@ pub returns : goal.returns
 unfolding ranges_from
 returns c =
     let e : c.args.count ≡ 2 = omega (arith, c.requires.0, c.if-count-eq0.false, c.if-count-eq1.false) in
-    simp (e, c.both.ensures, c.in_class-first.ensures, c.in_class.ensures, add-one, and-true)
+    simp (e, c.in_class-first.ensures, c.in_class.ensures, add-one, and-true)

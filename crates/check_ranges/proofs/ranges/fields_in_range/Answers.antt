@@ -12,21 +12,21 @@ pub loop-i-init : goal.loop-i-init
 loop-i-init c =
     let a = c.args in
     let e : a.from + a.count - a.from ≡ a.count = omega arith in
-    (search rules, rw e)
+    rw e
 
 pub returns-then-not-in_class : goal.returns-then-not-in_class
 returns-then-not-in_class c =
     let a = c.args in
-    sym (c.loop-i.invariant.1 ∙ range_stop a.fields.now a.counts _ c.loop-i.i c.loop-i.rest (search rules) (no_of _ _ c.in_class.ensures c.if-not-in_class.true))
+    sym (c.loop-i.invariant ∙ range_stop a.fields.now a.counts _ c.loop-i.i c.loop-i.rest (search rules) (no_of _ _ c.in_class.ensures c.if-not-in_class.true))
 
 pub loop-i-preserved : goal.loop-i-preserved
 loop-i-preserved c =
     let a = c.args in
-    (search rules, c.loop-i.invariant.1 ∙ range_next a.fields.now a.counts _ c.loop-i.i c.loop-i.rest (search rules) (yes_of _ _ c.in_class.ensures c.if-not-in_class.false))
+    c.loop-i.invariant ∙ range_next a.fields.now a.counts _ c.loop-i.i c.loop-i.rest (search rules) (yes_of _ _ c.in_class.ensures c.if-not-in_class.false)
 
 pub returns : goal.returns
 unfolding ranges_from
 returns c =
     let a = c.args in
     let e : a.from + a.count - c.loop-i.i ≡ 0 = search rules in
-    sym (c.loop-i.invariant.1 ∙ rw e)
+    sym (c.loop-i.invariant ∙ rw e)

@@ -19,15 +19,15 @@ returns-in-1073758470 c =
 
 pub returns-in-2147516936 : goal.returns-in-2147516936
 unfolding all ranges_from groups_from classes_past
-returns-in-2147516936 c = simp (c.in-2147516936.is, c.both.ensures, c.names_domain.ensures, c.names_type.ensures, and-true)
+returns-in-2147516936 c = simp (c.in-2147516936.is, c.names_domain.ensures, c.names_type.ensures, and-true)
 
 pub returns-in-2147517194 : goal.returns-in-2147517194
 unfolding all ranges_from groups_from classes_past
-returns-in-2147517194 c = simp (c.in-2147517194.is, c.both-in-2147517194-2.ensures, c.both-in-2147517194.ensures, c.names_type-in-2147517194-2.ensures, c.names_domain-in-2147517194.ensures, c.names_type-in-2147517194.ensures, and-true)
+returns-in-2147517194 c = simp (c.in-2147517194.is, c.names_type-in-2147517194-2.ensures, c.names_domain-in-2147517194.ensures, c.names_type-in-2147517194.ensures, and-true)
 
 pub returns-in-2147484168 : goal.returns-in-2147484168
 unfolding all ranges_from groups_from classes_past
-returns-in-2147484168 c = simp (c.in-2147484168.is, c.both-in-2147484168.ensures, c.names_type-in-2147484168-2.ensures, c.names_type-in-2147484168.ensures, and-true)
+returns-in-2147484168 c = simp (c.in-2147484168.is, c.names_type-in-2147484168-2.ensures, c.names_type-in-2147484168.ensures, and-true)
 
 pub returns-in-2147488006 : goal.returns-in-2147488006
 unfolding all ranges_from groups_from classes_past
