@@ -146,7 +146,7 @@ def walks_without_the_reader(root):
     """The loop over the records, if it does not keep the reader struct in a local."""
     for f in functions(root):
         if f.name == "scan_with":
-            steps = (r"let mut walk = [\w:]*\bnew\(image, 0\)", r"loop \{\s*let head = [\w:]*\bnext\(walk\)", r"= [\w:]*\bfields\(walk, len\)", r"walk = [\w:]*\bpast\(walk, len\)")
+            steps = (r"let mut walk = Walk::new\(image, 0\)", r"while let Some\(head\) = walk\s*\.next\(\)", r"= walk\.fields\(head\.len\)", r"walk = walk\.past\(head\.len\)")
             return [f"{f}: lacks {step}" for step in steps if not re.search(step, f.body)]
     return ["no function scan_with"]
 

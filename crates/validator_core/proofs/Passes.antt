@@ -16,7 +16,6 @@ use Rattle.verdict.specs.Verdicts.{laid_out_of}
 use Rattle.verdict.proofs.Answered.{accepted_is, turn_stops, turn_goes, last_turn}
 use Rattle.verdict.proofs.Passed.{shape_accepts}
 use Rattle.read_records.specs.declared.numbers.Counts.{Counts}
-use Rattle.check_layout.specs.declared.Scan.{Scan}
 use Rattle.check_uses.specs.Marks.{all_marks}
 use Rattle.check_layout.specs.Tables.{layout_of, scan_of, Marks, Scanned}
 use Rattle.validator_core.specs.Examined.{Checked}
@@ -46,8 +45,8 @@ pub shaped : (b : List ℕ) (v : Verdict) → v ≡ shape (records_of b) (length
 shaped b v e h = (shape_accepts (records_of b) (length b)).0 (sym e ∙ accepted_is v h)
 
 -- The scan stopped, or laid the image out.
-module _ (b ds ts ks es ms : List ℕ) (x : Scan) (short : length b ≤ image_limit) (s : Scanned x b ds ts ks es ms) where
-  pub stopped_answer : (r : Refusal) (o : ℕ) → x ≡ Scan.Stopped r o → Answered (Err (record { why = r; place = o })) b ds ts ks es
+module _ (b ds ts ks es ms : List ℕ) (x : Checked) (short : length b ≤ image_limit) (s : Scanned x b ds ts ks es ms) where
+  pub stopped_answer : (r : Refusal) (o : ℕ) → x ≡ Err (record { why = r; place = o }) → Answered (Err (record { why = r; place = o })) b ds ts ks es
   unfolding examined in_turn
   stopped_answer r o e =
       let a : stopped r o ≡ layout b = ap (λ y. scan_of y b ds ts es) (sym e) ∙ s.answer in
@@ -58,7 +57,7 @@ module _ (b ds ts ks es ms : List ℕ) (x : Scan) (short : length b ≤ image_li
         holds = s.holds;
       }
 
-  module _ (n : Counts) (e : x ≡ Scan.Laid n) where
+  module _ (n : Counts) (e : x ≡ Ok n) where
     laid_answer : laid (layout_of b n ds ts es) ≡ layout b
     laid_answer = ap (λ y. scan_of y b ds ts es) (sym e) ∙ s.answer
 

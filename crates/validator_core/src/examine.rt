@@ -31,8 +31,8 @@ fn check_laid_out(
     check_typing::check_typing(image, counts, doms, types, terms, descriptors)
 }
 
-// Refusals 2 to 16, and the tables; of an accepted image, how many records each section has. The table of kinds is made here, where the scan reads it: lent from farther away it would be
-// found by its address at each record.
+// Refusals 2 to 16, and the tables; of an accepted image, how many records each section has. The table of kinds is made here,
+// where the scan reads it: lent from farther away it would be found by its address at each record.
 pub fn examine_image(
     image: &[u8],
     doms: &mut [u16],
@@ -45,7 +45,7 @@ pub fn examine_image(
 {
     let kinds = read_records::table::kind_codes();
     let mut marks = [0u8; TERM_LIMIT];
-    let scanned = check_layout::scan_records(
+    let counts = check_layout::scan_records(
         image,
         &kinds,
         doms,
@@ -53,21 +53,16 @@ pub fn examine_image(
         descriptors,
         terms,
         &mut marks,
-    );
-    match scanned {
-        check_layout::Scan::Stopped(why, place) => Err(Refused { why, place }),
-        check_layout::Scan::Laid(counts) => {
-            check_laid_out(
-                image,
-                &kinds,
-                counts,
-                doms,
-                types,
-                descriptors,
-                terms,
-                &marks,
-            )?;
-            Ok(counts)
-        }
-    }
+    )?;
+    check_laid_out(
+        image,
+        &kinds,
+        counts,
+        doms,
+        types,
+        descriptors,
+        terms,
+        &marks,
+    )?;
+    Ok(counts)
 }
