@@ -38,7 +38,6 @@ LONG = {
 # may only become shorter.
 MOST_PARAMETERS = 6
 MANY_PARAMETERS = """
-base_bytes: join64 8
 bukzarn: bukzarn_run_frames 7
 check_core: check_install 7, check_lower 7, check_new_cell 7, check_read 7, check_store 7
 check_dispatch: check_rule 7
@@ -70,7 +69,7 @@ DEEPEST = 3
 # A number over this has a name, but in these functions. The length of an array is a literal in Rattle.
 LARGEST_BARE = 8
 NUMBERS_IN_PLACE = {
-    "the bytes of a number: powers of 256": "base_bytes: join64 store; listing_lines: join long; read_records: join16 descriptor_field0"
+    "the bytes of a number: powers of 256": "listing_lines: join long; read_records: descriptor_field0"
         " descriptor_field1 descriptor_field2 descriptor_kind descriptor_with; report: put16 put32; vm_pass_up: number_word",
     "the bits of a word: powers of 2, by the widths that stand beside": "read_records: child_count entry_count field_classes;"
         " check_typing: verdict_of; check_repeats: bit_of mix place_of word_of",

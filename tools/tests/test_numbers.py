@@ -77,14 +77,12 @@ def rust(module):
 # written out, but for these.
 BYTE = "a byte, or the numbers that a byte holds"
 NOT_LIMITS = {
-    "base_bytes/lib.rt": ({256, 4294967296}, BYTE),
     "check_fields/lib.rt": ({256}, BYTE),
     "check_scopes/scope.rt": ({256}, BYTE),
     "image_refusals/lib.rt": ({16}, "the number of a refusal"),
     "listing_lines/offsets.rt": ({256}, BYTE),
     "read_records/numbers.rt": ({256}, BYTE),
     "read_records/table.rt": ({16}, "four bits of a kind's code"),
-    "read_records/words.rt": ({256}, BYTE),
     "report/numbers.rt": ({256}, BYTE),
     "vm_matches/looks.rt": ({256}, BYTE),
     "vm_matches/operands.rt": ({256}, BYTE),
