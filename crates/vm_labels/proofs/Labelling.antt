@@ -9,16 +9,13 @@ use lib.Dec.{eqb, leb}
 use borrow.Author.Tests.{le-leb, lt-leb, not-true, not-false}
 use Rattle.calculus.specs.declared.Outcome.{Outcome}
 use Rattle.calculus.specs.Combinators.{choose}
-use Rattle.calculus.specs.Limits.{piece_limit, label_limit}
-use Rattle.calculus.specs.Report.{outcome_number}
-use Rattle.vm_code.specs.Values.{pointcut_tag, body_of}
+use Rattle.calculus.specs.Limits.{label_limit}
+use Rattle.vm_code.specs.Values.{pointcut_tag}
 use Rattle.vm_code.specs.Words.{class_of, depth_of, count_of, term_count, return_pc}
 use Rattle.vm_code.specs.Classes.{pointcut_class}
 use Rattle.vm_machine.specs.declared.Regs.{Regs}
-use Rattle.vm_machine.specs.Registers.{fuel_bias, frame_slots, set_pc, set_env, set_frames, halt_with, halt, stuck}
-use Rattle.vm_pools.specs.Pools.{has_capacity, pieces_out}
-use Rattle.vm_machine.specs.Quotas.{quota_of}
-use Rattle.vm_machine.specs.Memory.{Memory, slot_pc, slot_env, digits_at, digit_count, no_digits, with_digit, label_set, put_word, pointcut_frame, slot_word, slot_in, put_listed, put_digits, binding_places, held_size}
+use Rattle.vm_machine.specs.Registers.{frame_slots, set_pc, set_env, set_frames, halt, stuck}
+use Rattle.vm_machine.specs.Memory.{Memory, slot_pc, digit_count, no_digits, label_set, put_word, pointcut_frame, slot_word, slot_in, put_listed, put_digits, binding_places, held_size}
 use Rattle.vm_machine.specs.States.{State, with_regs, judged}
 use Rattle.vm_machine.specs.Fetch.{Program, code_at}
 use Rattle.vm_machine.specs.Reduce.{new_piece}
@@ -27,9 +24,8 @@ use Rattle.vm_memory.specs.View.{memory_of, Holds}
 use Rattle.vm_memory.proofs.Chosen.{chosen_yes, chosen_no}
 use Rattle.vm_registers.specs.Phases.{state_of, Represents, Phase}
 use Rattle.vm_registers.proofs.Made.{as_phase, stored_made, regs_made}
-use Rattle.vm_registers.proofs.Quotas.{quota_unpaid_made}
 use Rattle.vm_labels.specs.declared.Part.{Part}
-use Rattle.vm_labels.specs.PointcutChildren.{FramesAfter, child_begun, begun_part, part_of, resumes_other, labelled}
+use Rattle.vm_labels.specs.PointcutChildren.{FramesAfter, child_begun, part_of, resumes_other, labelled}
 
 -- There are at most n of n digits.
 pub few_digits : (n d : ℕ) → digit_count n d ≤ n
@@ -50,25 +46,10 @@ module _ (f : State → State) (a b : List ℕ) (r q : Regs) (w d : ℕ) (k : d 
   pub judged_made : d < r.frames → Phase f a b r q → Phase (λ S. judged w S (f S)) a b r q
   judged_made l p = as_phase f (λ S. judged w S (f S)) a b r q (λ log. sym (chosen_no _ _ _ (lt-leb r.frames (depth_of w) (omega arith)))) p
 
--- Nothing is left of the budget for a piece: o says what is missing (card 5), x what is where the half h has no room (card 9).
-pub piece_unpaid : (a : List ℕ) (r q : Regs) (w tag x y : ℕ) (h t : Bool) → h ≡ quota_of w → t ≡ has_capacity piece_limit h 1 r.pools.pieces → (o z : ℕ) → r.fuel ≤ fuel_bias → z ≡ outcome_number (pieces_out h) → o ≡ choose t (outcome_number Outcome.Spent) z → q ≡ halt_with o r.fuel r
-    → Phase (new_piece w tag x y) a a r q
-piece_unpaid a r q w tag x y h t is test = quota_unpaid_made piece_limit 1 (λ p. p.pieces) pieces_out w r h t is test _ a q
-
 -- The pointcut with word w and n children is made; s is the set of its labels.
 pub pointcut_as : (a b : List ℕ) (r q : Regs) (w n s digits : ℕ) → n ≡ count_of w → s ≡ label_set n digits 0 → Phase (new_piece w pointcut_tag 0 s) a b r q
     → Phase (new_piece w pointcut_tag 0 (label_set (count_of w) digits 0)) a b r q
 pointcut_as a b r q w n s digits e d p = subst (λ (x : ℕ). Phase (new_piece w pointcut_tag 0 x) a b r q) (d ∙ ap (λ i. label_set i digits 0) e) p
-
--- A pointcut that is made, or not, leaves the room as it is.
-frames_of_lem : (b : Bool) (S T : State) (n : ℕ) → S.regs.frames ≡ n → T.regs.frames ≡ n → (choose b S T).regs.frames ≡ n
-frames_of_lem true S T n d e = d
-frames_of_lem false S T n d e = e
-
-pub made_frames : (w s : ℕ) (S : State) → (judged w S (new_piece w pointcut_tag 0 s S)).regs.frames ≡ S.regs.frames
-made_frames w s S =
-    frames_of_lem (leb S.regs.frames (depth_of w)) _ _ S.regs.frames refl
-    (frames_of_lem (has_capacity piece_limit (quota_of w) 1 S.regs.pools.pieces) _ _ S.regs.frames (frames_of_lem (leb S.regs.fuel fuel_bias) _ _ S.regs.frames refl refl) refl)
 
 -- The frame of a body with m places of room, made from inside or from around it.
 pub listed_around : (a b : List ℕ) (frames d m pc env held byte : ℕ) → m ≡ frames - d → d < frames → Holds (put_listed (m + 1) 1 pc env held byte (memory_of a)) a b → Holds (put_listed frames d pc env held byte (memory_of a)) a b
@@ -109,12 +90,6 @@ module _ (C : Program) (a b : List ℕ) (r q : Regs) (t i d w : ℕ) (word : w �
   pub all_done : n ≤ k.count → Phase make a b r q → Phase (labels_from C t i d) a b r q
   all_done h p = as_phase make (labels_from C t i d) a b r q (all_by h) p
 
-  -- Then the room is that after them.
-  pub all_frames : n ≤ k.count → (log : List ℕ) → (labels_from C t i d (state_of a log r)).regs.frames ≤ frame_slots → r.frames ≤ frame_slots
-  all_frames h log l =
-      let e : (labels_from C t i d (state_of a log r)).regs.frames ≡ r.frames = ap (λ S. S.regs.frames) (sym (all_by h log)) ∙ made_frames w _ (state_of a log r) in
-      rw e at l
-
   module _ (more : k.count < n) (m : ℕ) (depth : m ≡ depth_of w) where
     more_by : (log : List ℕ) → choose (leb r.frames (depth_of w + 1)) (with_regs (halt Outcome.Frames r) (state_of a log r)) (child_begun C t w k (state_of a log r)) ≡ labels_from C t i d (state_of a log r)
     more_by log = sym (chosen_no _ _ _ (lt-leb (count_of w) k.count (omega arith))) ∙ known log
@@ -124,14 +99,6 @@ module _ (C : Program) (a b : List ℕ) (r q : Regs) (t i d w : ℕ) (word : w �
 
     pub one_begun : m + 1 < r.frames → Phase (child_begun C t w k) a b r q → Phase (labels_from C t i d) a b r q
     one_begun h p = as_phase (child_begun C t w k) (labels_from C t i d) a b r q (λ log. (sym (chosen_no _ _ _ (lt-leb r.frames (depth_of w + 1) (omega arith))) ∙ more_by log)) p
-
--- Where its children go on.
-pub resumed_part_lem : (C : Program) (M : Memory) (resumed : Bool) (f : ℕ) (r : Regs) (pc env d n x y m : ℕ) → resumed ≡ true → pc ≡ slot_pc f → env ≡ slot_env f → d ≡ digits_at M r.frames f → n ≡ digit_count 8 d
-    → x ≡ body_of r.acc → y ≡ with_digit d (x % label_limit) → m ≡ depth_of (code_at C pc) → record { pc = pc; env = env % binding_places; frames = r.frames + (m + 1); done = record { count = n + 1; digits = y } } ≡ part_of C M resumed f r
-resumed_part_lem C M resumed f r pc env d n x y m t a b e g h i j = rw (t, j, i, h, g, e, b, a)
-
-pub begun_part_lem : (C : Program) (M : Memory) (resumed : Bool) (f : ℕ) (r : Regs) → resumed ≡ false → begun_part r ≡ part_of C M resumed f r
-begun_part_lem C M resumed f r t = rw t
 
 module _ (C : Program) (M : Memory) (f : ℕ) (r : Regs) (p : Part) where
   pub part_pc : (resumed : Bool) → p ≡ part_of C M resumed f r → r.pc ≤ return_pc → p.pc ≤ return_pc
@@ -145,9 +112,6 @@ module _ (C : Program) (M : Memory) (f : ℕ) (r : Regs) (p : Part) where
   pub part_frames : (resumed : Bool) → p ≡ part_of C M resumed f r → r.frames ≤ frame_slots → (resumed ≡ true → r.frames < frame_slots) → p.frames ≤ frame_slots + depth_of (code_at C p.pc)
   part_frames true e h k = let l = k refl in rw e (omega arith)
   part_frames false e h k = rw e (omega arith)
-
-pub resumes_other_as : (resumed : Bool) (w k : ℕ) → resumed ≡ true → k ≡ class_of w → not (eqb k pointcut_class) ≡ resumes_other resumed w
-resumes_other_as resumed w k t e = rw (t, e)
 
 -- What is resumed is a pointcut, or not.
 module _ (C : Program) (a b : List ℕ) (r q : Regs) (f : ℕ) (p : Part) where

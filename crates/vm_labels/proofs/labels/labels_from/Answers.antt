@@ -1,14 +1,7 @@
 use Rattle.vm_machine.specs.Fetch.{Program}
 use Rattle.vm_machine.specs.Turn.{Taken}
-use Rattle.vm_labels.proofs.Labelling.{all_done, all_frames, no_capacity, one_begun}
+use Rattle.vm_labels.proofs.Labelling.{all_done, no_capacity, one_begun}
 use Rattle.vm_labels.proofs.labels.labels_from.Goals as goal
-
-pub make_pointcut-requires : goal.make_pointcut-requires
-make_pointcut-requires c =
-    let a = c.args in
-    let C : Program = record { code = a.code.now; image = a.image.now } in
-    let k : Taken = record { count = c.take_labels-done.result.count; digits = c.take_labels-done.result.digits } in
-    (c.requires.1, all_frames C a.work.now a.work.now a.r a.r a.r.pc a.from.count a.from.digits _ c.instruction-w.ensures k (c.take_labels-done.ensures a.image.now c.child_fields-fields.ensures) _ c.count_of.ensures c.if-count_of-done.true c.requires.6.0 c.requires.6.1, c.requires.5)
 
 pub returns-then-count_of-done : goal.returns-then-count_of-done
 returns-then-count_of-done c =
