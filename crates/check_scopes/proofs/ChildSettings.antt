@@ -3,7 +3,7 @@ use Prim.Native.Nat.{ℕ, zero, suc, ◌+◌, ◌*◌, ◌<◌}
 use native.Mathlib.Omega.{arith}
 use native.Mathlib.Numerals.{add-one}
 use mathlib.Core.Path.{◌≡◌, refl, sym, ap, ◌∙◌}
-use mathlib.Core.Bool.{true, false, not, ◌||◌}
+use mathlib.Core.Bool.{true, false, ◌||◌}
 use mathlib.Core.List.{List, [], ◌∷◌}
 use lib.ListN.{length, get_or, set, length-set}
 use lib.Seq.{get_or-set_same, take-set-le}
@@ -12,30 +12,25 @@ use Rattle.calculus.specs.Syntax.{no_method, Ty, Sigs, method}
 use Rattle.calculus.specs.Typing.{Has, has_first, has_later}
 use Rattle.calculus.specs.Plain.{dom_of, methods_of, method_dom}
 use Rattle.image.specs.Bytes.{words}
-use Rattle.image.specs.Kinds.{a_type, free, Body, here, function_body, advice_body, split_body, lower_body, object_body, match_body, TypeKind, type_row_of, TermKind, term_row, bodies, body_of}
-use Rattle.image.specs.Records.{fields_at}
+use Rattle.image.specs.Kinds.{Body, here, function_body, advice_body, split_body, lower_body, object_body, match_body, TypeKind, TermKind, term_row, bodies, body_of}
 use Rattle.image.specs.Layout.{records_of}
-use Rattle.image.specs.Types.{type_place, type_fields, type_field, method_count, is_type, methods_out, type_out, type_of}
-use Rattle.laws.proofs.Booleans.{no_path, or_false_l, or_false_r, not_t, eq_of}
+use Rattle.image.specs.Types.{type_fields, type_field, method_count, is_type, methods_out, type_out, type_of}
+use Rattle.laws.proofs.Booleans.{no_path, or_false_l, or_false_r, eq_of}
 use Rattle.laws.proofs.Tests.{each}
 use Rattle.image.proofs.EveryKind.{every_of, at_term, or_else}
 use Rattle.image.proofs.Offsets.{side_by_side}
-use Rattle.image.proofs.Bodies.{Owner, body_owner}
 use Rattle.image.proofs.TypeNumbers.{out_as}
 use Rattle.verdict.specs.Settings.{Setting}
 use Rattle.verdict.specs.Check.{described}
-use Rattle.verdict.proofs.Contexts.{part_there}
 use Rattle.verdict.proofs.Methods.{has_method, method_fields_lem}
 use Rattle.read_records.specs.Heads.{field_in}
 use Rattle.read_records.specs.Descriptors.{descriptor_field0, descriptor_field1}
 use Rattle.read_terms.specs.Lent.{Types, Lent, TypeOffsets, IsType, IsObject}
 use Rattle.check_rules.specs.Scopes.{context_in, setting_in}
-use Rattle.read_terms.specs.Fields.{children_in, count_in, types_in}
+use Rattle.read_terms.specs.Fields.{count_in, types_in}
 use Rattle.read_terms.proofs.Descriptors.{unpacked, describes}
-use Rattle.read_terms.proofs.Counts.{children_counted}
 use Rattle.read_terms.proofs.Located.{good_of}
 use Rattle.check_rules.proofs.Scopes.{context_kept}
-use Rattle.read_terms.proofs.Elimination.{apart, left_over}
 use Rattle.check_rules.proofs.Methods.{bodies_counted}
 use Rattle.check_rules.proofs.OnDescriptors.{own_descriptor, type_at_field, descriptor_at_field, at_field_typed}
 use Rattle.check_scopes.specs.Scopes.{elsewhere, any_elsewhere, moves_child, Passed, ChildAt}
@@ -47,23 +42,6 @@ bound_context scope len v h =
     let a : get_or (set scope len v) len 0 ≡ v = get_or-set_same scope len v 0 h in
     let k : context_in (set scope len v) len ≡ context_in scope len = context_kept (set scope len v) scope len (take-set-le len scope len v (omega arith)) in
     rw (add-one len, a, k)
-
--- The kinds that have a body which stands elsewhere; the children of any other kind stand where the term does.
-abbrev pub with_body : List TermKind
-with_body = TermKind.match ∷ TermKind.obj ∷ TermKind.adv ∷ TermKind.split ∷ TermKind.lower ∷ TermKind.fun ∷ []
-
-is_here : (body : Body) (k : TermKind) → Owner k body → (m : ℕ) → apart m with_body → m ≡ (term_row k).number → body ≡ here
-is_here here k w m r e = refl
-is_here function_body k w m r e = absurd (r.0.0.0.0.0.1 (e ∙ ap (λ j. (term_row j).number) w))
-is_here advice_body k w m r e = absurd (r.0.0.1 (e ∙ ap (λ j. (term_row j).number) w))
-is_here split_body k w m r e = absurd (r.0.0.0.1 (e ∙ ap (λ j. (term_row j).number) w))
-is_here lower_body k w m r e = absurd (r.0.0.0.0.1 (e ∙ ap (λ j. (term_row j).number) w))
-is_here object_body k w m r e = absurd (r.0.1 (e ∙ ap (λ j. (term_row j).number) w))
-is_here match_body k w m r e = absurd (r.1 (e ∙ ap (λ j. (term_row j).number) w))
-
-pub none_moves : (m : ℕ) → apart m with_body → (k : TermKind) → m ≡ (term_row k).number → moves_child k ≡ false
-unfolding every_of
-none_moves m r k e = not_t (moves_child k) (left_over (λ k. not (moves_child k)) with_body refl m r k e)
 
 -- Where no child stands elsewhere, each stands where the term does, and they stand side by side.
 all_here : (bs : List Body) (d : Body) (i : ℕ) → any_elsewhere bs ≡ false → d ≡ here → get_or bs i d ≡ here
@@ -95,15 +73,6 @@ module _ {b descriptors : List ℕ} (T : Types b descriptors) {t : ℕ} (h : IsT
   pub part_is : (i : ℕ) → type_field (records_of b) t i ≡ (unpacked (records_of b) t (get_or descriptors t 0)).part i
   part_is i = ap (λ d. d.part i) (describes T h)
 
-  -- A type that is a part of another has a number of one byte.
-  part_small : (k : TypeKind) (i : ℕ) → is_type (records_of b) k t ≡ true → get_or (fields_at (records_of b).image (type_place (records_of b) t) (type_row_of k)) i free ≡ a_type → (unpacked (records_of b) t (get_or descriptors t 0)).part i < 256
-  part_small k i e q =
-      let g = good_of b T.laid_out in
-      let l = part_there (records_of b) g k i t h e q in
-      let f = g.few_types in
-      let p = part_is i in
-      omega arith
-
   -- The domain that a function's type names, and an advice's.
   function_domain : is_type (records_of b) TypeKind.fun t ≡ true → dom_of (type_of (records_of b) t) ≡ type_field (records_of b) t 1
   unfolding type_out
@@ -120,9 +89,6 @@ settings_alike p q = cc
 module _ {b descriptors fs scope : List ℕ} {len c : ℕ} (T : Types b descriptors) (P : Passed b fs TermKind.fun scope len c) where
   function_type : is_type (records_of b) TypeKind.fun (field_in fs 0) ≡ true
   function_type = (each _ P.fits).0
-
-  pub function_small : descriptor_field0 (own_descriptor descriptors fs) < 256
-  function_small = part_small T P.typed.type TypeKind.fun 0 function_type refl
 
   pub function_at : ChildAt b fs TermKind.fun 0 scope (set scope len (descriptor_field0 (own_descriptor descriptors fs))) len c (len + 1) (descriptor_field1 (own_descriptor descriptors fs))
   function_at =
@@ -144,13 +110,6 @@ module _ {b terms descriptors fs scope : List ℕ} {len c : ℕ} (G : Lent b ter
   advice_type : is_type (records_of b) TypeKind.adv (field_in fs 0) ≡ true
   advice_type = (each _ P.fits).0
 
-  pointcut_type : is_type (records_of b) TypeKind.pcd (type_at_field b fs 1) ≡ true
-  unfolding words
-  pointcut_type = (each _ P.fits).1.0
-
-  pub advice_small : descriptor_field0 (descriptor_at_field b descriptors fs 1) < 256
-  advice_small = part_small G.types (at_field_typed G (P.children 0 (lit< tt))) TypeKind.pcd 0 pointcut_type refl
-
   pub advice_at : ChildAt b fs TermKind.adv 1 scope (set scope len (descriptor_field0 (descriptor_at_field b descriptors fs 1))) len c (len + 1) (descriptor_field0 (own_descriptor descriptors fs))
   unfolding words
   advice_at =
@@ -169,15 +128,8 @@ module _ {b terms descriptors fs scope : List ℕ} {len c : ℕ} (G : Lent b ter
 
 -- The body of a split: the second part is the innermost variable.
 module _ {b terms descriptors fs scope : List ℕ} {len c : ℕ} (G : Lent b terms descriptors) (P : Passed b fs TermKind.split scope len c) where
-  pair_type : is_type (records_of b) TypeKind.pair (type_at_field b fs 1) ≡ true
-  unfolding words
-  pair_type = (each _ P.fits).0
-
   pair_there : IsType b (type_at_field b fs 1)
   pair_there = at_field_typed G (P.children 0 (lit< tt))
-
-  pub split_small : (descriptor_field0 (descriptor_at_field b descriptors fs 1) < 256) × (descriptor_field1 (descriptor_at_field b descriptors fs 1) < 256)
-  split_small = (part_small G.types pair_there TypeKind.pair 0 pair_type refl, part_small G.types pair_there TypeKind.pair 1 pair_type refl)
 
   pub split_at : ChildAt b fs TermKind.split 1 scope (set (set scope len (descriptor_field0 (descriptor_at_field b descriptors fs 1))) (len + 1) (descriptor_field1 (descriptor_at_field b descriptors fs 1))) len c (len + 2) c
   unfolding words
@@ -253,22 +205,3 @@ lower_at b fs scope len c = record { stands = refl; kept = refl; same = refl; gr
 module _ (b fs scope : List ℕ) (len c i : ℕ) where
   pub here_at : (k : TermKind) → body_of k i ≡ here → ChildAt b fs k i scope scope len c len c
   here_at k e = record { stands = rw e refl; kept = refl; same = refl; grown = omega arith; little = omega arith }
-
-  pub same_at : (m : ℕ) → apart m with_body → (k : TermKind) → m ≡ (term_row k).number → ChildAt b fs k i scope scope len c len c
-  same_at m r k e = here_at k (is_here (body_of k i) k (body_owner k i) m r e)
-
-  pub split_first : i < length (children_in fs TermKind.split) → (i ≡ 1 → ⊥) → ChildAt b fs TermKind.split i scope scope len c len c
-  split_first l h = let n = children_counted fs TermKind.split refl in let z : i ≡ 0 = omega arith in here_at TermKind.split (ap (body_of TermKind.split) z)
-
-  pub advice_first : i < length (children_in fs TermKind.adv) → (i ≡ 1 → ⊥) → ChildAt b fs TermKind.adv i scope scope len c len c
-  advice_first l h = let n = children_counted fs TermKind.adv refl in let z : i ≡ 0 = omega arith in here_at TermKind.adv (ap (body_of TermKind.adv) z)
-
-  -- Of a match (card 6), all but the first branch.
-  other_branch_lem : (j : ℕ) → (j ≡ 1 → ⊥) → body_of TermKind.match j ≡ here
-  other_branch_lem zero h = refl
-  other_branch_lem (suc zero) h = absurd (h refl)
-  other_branch_lem (suc (suc zero)) h = refl
-  other_branch_lem (suc (suc (suc j))) h = refl
-
-  pub match_others : (i ≡ 1 → ⊥) → ChildAt b fs TermKind.match i scope scope len c len c
-  match_others h = here_at TermKind.match (other_branch_lem i h)

@@ -7,26 +7,10 @@ use Rattle.image.specs.Records.{as_child}
 use Rattle.image.specs.Layout.{records_of}
 use Rattle.read_records.proofs.Entries.{none_left}
 use Rattle.read_terms.specs.Fields.{first_entry}
-use Rattle.read_terms.proofs.Matches.{few_named, at_first}
+use Rattle.read_terms.proofs.Matches.{few_named}
 use Rattle.check_scopes.specs.Scopes.{value_types, Binds}
 use Rattle.check_scopes.proofs.Bindings.{values_length, binds_none, binds_entry}
 use Rattle.check_scopes.proofs.matches.bind_entries.Goals as goal
-
-pub loop-i-init : goal.loop-i-init
-loop-i-init c =
-    let a = c.args in
-    let e = at_first a.fields.now c.entries_in-i-end.result c.entries_in-i-end.ensures in
-    (omega arith, c.requires.2, λ x m D. subst (λ es. Binds a.scope.now x a.len m (value_types (records_of a.image.now) es)) (sym e) D)
-
-pub bind_entry-used-requires : goal.bind_entry-used-requires
-bind_entry-used-requires c =
-    let l = c.loop-i in
-    let k = c.entries_in-i-end.ensures in
-    let h = c.requires.1.each l.i (omega arith) in
-    let f = c.requires.1.few in
-    let r = c.requires.3 in
-    let u = c.loop-i.invariant.0 in
-    (c.requires.0, omega (arith, c.field-entry.ensures), l.invariant.1, omega arith)
 
 pub loop-i-preserved : goal.loop-i-preserved
 loop-i-preserved c =

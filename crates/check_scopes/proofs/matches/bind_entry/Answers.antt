@@ -8,12 +8,8 @@ use Rattle.image.specs.Types.{type_no, type_field}
 use Rattle.read_terms.specs.Lent.{IsType}
 use Rattle.read_records.specs.Descriptors.{descriptor_field0}
 use Rattle.check_scopes.proofs.ChildSettings.{part_is}
-use Rattle.check_scopes.proofs.Bindings.{binds_none, binds_one}
+use Rattle.check_scopes.proofs.Bindings.{binds_one}
 use Rattle.check_scopes.proofs.matches.bind_entry.Goals as goal
-
-pub stated_type-pointcut-requires : goal.stated_type-pointcut-requires
-stated_type-pointcut-requires c =
-    (c.requires.0.terms, let e = c.entry_term.ensures in let h = c.requires.1 in omega arith)
 
 pub returns : goal.returns
 returns c =
@@ -28,6 +24,3 @@ returns c =
     let r = c.requires.3 in
     let l : c.args.len < length scope = omega arith in
     rw (en.ensures, c.bind.ensures, q) (binds_one scope c.args.len (type_field L (type_no L en.result.0) 0) l)
-
-pub returns-then-entry-eq0 : goal.returns-then-entry-eq0
-returns-then-entry-eq0 c = rw c.if-entry-eq0.true (binds_none _ _)

@@ -1,26 +1,11 @@
 -- `check_scopes::matches::match_setting` meets its contract.
 use Prim.Native.Nat.{◌<◌}
 use native.Mathlib.Omega.{arith}
-use mathlib.Core.Path.{refl, sym, ◌∙◌}
+use mathlib.Core.Path.{sym, ◌∙◌}
 use lib.ListN.{length}
-use Rattle.read_terms.proofs.Counts.{match_count}
 use Rattle.read_terms.proofs.Located.{good_of}
 use Rattle.check_scopes.proofs.Bindings.{with_rest, without_rest}
 use Rattle.check_scopes.proofs.matches.match_setting.Goals as goal
-
-pub binds_rest-requires : goal.binds_rest-requires
-binds_rest-requires c =
-    (c.requires.1.entries refl).long
-
-pub type_at_field-stack-requires : goal.type_at_field-stack-requires
-type_at_field-stack-requires c =
-    let n = match_count c.args.fields.now in
-    (c.requires.0.terms, c.requires.1.children 0 (omega arith))
-
-pub bind_entries-used-requires : goal.bind_entries-used-requires
-bind_entries-used-requires c =
-    let r = c.requires.1.capacity in
-    (c.requires.0, c.requires.1.entries refl, c.requires.1.places, omega arith)
 
 pub bind-requires : goal.bind-requires
 bind-requires c =

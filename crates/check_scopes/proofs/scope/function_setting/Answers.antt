@@ -1,17 +1,9 @@
 -- `check_scopes::scope::function_setting` meets its contract.
-use native.Mathlib.Omega.{arith}
 use mathlib.Core.Path.{◌≡◌, ap, ◌∙◌}
 use Rattle.read_records.specs.Descriptors.{descriptor_field0, descriptor_field1}
 use Rattle.check_rules.proofs.OnDescriptors.{own_descriptor}
-use Rattle.check_scopes.proofs.ChildSettings.{function_small, function_at}
+use Rattle.check_scopes.proofs.ChildSettings.{function_at}
 use Rattle.check_scopes.proofs.scope.function_setting.Goals as goal
-
-pub bind-requires : goal.bind-requires
-bind-requires c =
-    let r = c.requires.1.capacity in
-    let l = c.requires.1.places in
-    let e : c.first_type.result.0 ≡ descriptor_field0 (own_descriptor c.args.descriptors.now c.args.fields.now) = c.first_type.ensures ∙ ap descriptor_field0 c.own_descriptor-own.ensures in
-    (omega arith, rw e (function_small c.requires.0 c.requires.1))
 
 pub returns : goal.returns
 returns c =
