@@ -16,8 +16,7 @@ pub fn first_deep(depths: &[u8], terms: &[u16], end: TermNo) -> Verdict
     requires { (end.0 ≤ length depths.now) × (end.0 ≤ length terms.now) }
     ensures { result ≡ deep_from terms.now depths.now end.0 0 }
 {
-    let mut i: u16 = 0;
-    while i < end.0 {
+    for i in 0..end.0 {
         let n = TermNo(i);
         if DEEPEST < mark_of(depths, n) {
             return Err(Refused {
@@ -25,7 +24,6 @@ pub fn first_deep(depths: &[u8], terms: &[u16], end: TermNo) -> Verdict
                 place: offset_of(terms, n),
             });
         }
-        i += 1;
     }
     Ok(())
 }

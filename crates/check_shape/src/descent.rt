@@ -25,11 +25,9 @@ fn mark_side(fields: &[u8], code: u32, d: u8, depths: &mut [u8])
 {
     let first = read_records::table::field_count(code);
     let count = read_records::table::child_count(code, fields.len());
-    let mut j: usize = 0;
-    while j < count {
+    for j in 0..count {
         let e = read_records::fields::field_as(fields, first + j);
         set_mark(depths, e, d);
-        j += 1;
     }
 }
 
@@ -52,10 +50,8 @@ fn mark_entries(fields: &[u8], code: u32, d: u8, depths: &mut [u8])
     let before = read_records::table::field_count(code);
     let first = before + read_records::table::child_count(code, fields.len());
     let count = read_records::table::entry_count(code, fields.len());
-    let mut j: usize = 0;
-    while j < count {
+    for j in 0..count {
         mark_entry(read_records::fields::field(fields, first + j), d, depths);
-        j += 1;
     }
 }
 
@@ -85,9 +81,7 @@ fn mark_terms(image: &[u8], kinds: &[u32], terms: &[u16], depths: &mut [u8])
     requires { (kinds.now ≡ kind_codes) × Terms image.now terms.now × (length depths.old ≡ length terms.now) }
     ensures { depths.new ≡ capped_from (records_of image.now) (length terms.now) depths.old }
 {
-    let mut i: usize = terms.len();
-    while 0 < i {
-        i -= 1;
+    for i in (0..terms.len()).rev() {
         mark_term(image, kinds, terms, TermNo(i as u16), depths);
     }
 }

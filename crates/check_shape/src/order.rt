@@ -9,7 +9,6 @@ ghost use Rattle.check_shape.specs.Records.{Domains};
 ghost use Rattle.check_shape.specs.Checks.{domains_ordered};
 
 use image::{DOMAIN_LIMIT, Refusal, Refused};
-use laws::either;
 use read_records::numbers::{DomainNo, offset_of};
 use verdict::Verdict;
 
@@ -19,11 +18,9 @@ fn row_of(mask: u16) -> [bool; DOMAIN_LIMIT]
 {
     let mut row = [false; DOMAIN_LIMIT];
     let mut m = mask;
-    let mut q: usize = 0;
-    while q < DOMAIN_LIMIT {
+    for q in 0..DOMAIN_LIMIT {
         row[q] = m % 2 == 1;
-        m = m / 2;
-        q += 1;
+        m /= 2;
     }
     row
 }
@@ -42,20 +39,11 @@ pub fn order_of(image: &[u8], doms: &[u16]) -> [[bool; DOMAIN_LIMIT]; DOMAIN_LIM
     ensures { Rows (records_of image.now) result }
 {
     let mut o = [[false; DOMAIN_LIMIT]; DOMAIN_LIMIT];
-    let mut d: usize = 0;
-    while d < doms.len() {
+    for d in 0..doms.len() {
         let fields = read_records::reader::fields_at(image, offset_of(doms, DomainNo(d as u16)));
-        let row = row_of(mask_of(fields));
-        o[d] = row;
-        d += 1;
+        o[d] = row_of(mask_of(fields));
     }
     o
-}
-
-fn lacking(a: bool, b: bool) -> bool
-    ensures { result ≡ (a && not b) }
-{
-    a && !b
 }
 
 // A domain with the row b names some domain, present or not, that one with the row a does not name.
@@ -63,10 +51,8 @@ fn gap_in(a: [bool; DOMAIN_LIMIT], b: [bool; DOMAIN_LIMIT]) -> bool
     ensures { result ≡ gap_in a b }
 {
     let mut found = false;
-    let mut f: usize = 0;
-    while f < DOMAIN_LIMIT {
-        found = either(found, lacking(b[f], a[f]));
-        f += 1;
+    for f in 0..DOMAIN_LIMIT {
+        found |= b[f] & !a[f];
     }
     found
 }
@@ -76,10 +62,8 @@ fn either_row(a: [bool; DOMAIN_LIMIT], b: [bool; DOMAIN_LIMIT]) -> [bool; DOMAIN
     ensures { result ≡ either_row a b }
 {
     let mut row = [false; DOMAIN_LIMIT];
-    let mut f: usize = 0;
-    while f < DOMAIN_LIMIT {
-        row[f] = either(a[f], b[f]);
-        f += 1;
+    for f in 0..DOMAIN_LIMIT {
+        row[f] = a[f] | b[f];
     }
     row
 }
@@ -96,8 +80,7 @@ fn at_fault(o: [[bool; DOMAIN_LIMIT]; DOMAIN_LIMIT], n: usize, d: DomainNo) -> b
         return true;
     }
     let mut named = [false; DOMAIN_LIMIT];
-    let mut e: usize = 0;
-    while e < DOMAIN_LIMIT {
+    for e in 0..DOMAIN_LIMIT {
         if own[e] {
             if n <= e {
                 return true;
@@ -106,9 +89,8 @@ fn at_fault(o: [[bool; DOMAIN_LIMIT]; DOMAIN_LIMIT], n: usize, d: DomainNo) -> b
                 named = either_row(named, o[e]);
             }
         }
-        e += 1;
     }
-    either(named[i], gap_in(own, named))
+    named[i] || gap_in(own, named)
 }
 
 // Refused at the first domain at fault.
@@ -116,8 +98,7 @@ fn first_unordered(o: [[bool; DOMAIN_LIMIT]; DOMAIN_LIMIT], doms: &[u16]) -> Ver
     requires { length doms.now ≤ domain_limit }
     ensures { result ≡ order_from doms.now o (length doms.now) 0 }
 {
-    let mut d: usize = 0;
-    while d < doms.len() {
+    for d in 0..doms.len() {
         let next = DomainNo(d as u16);
         if at_fault(o, doms.len(), next) {
             return Err(Refused {
@@ -125,7 +106,6 @@ fn first_unordered(o: [[bool; DOMAIN_LIMIT]; DOMAIN_LIMIT], doms: &[u16]) -> Ver
                 place: offset_of(doms, next),
             });
         }
-        d += 1;
     }
     Ok(())
 }

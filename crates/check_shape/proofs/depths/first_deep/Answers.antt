@@ -7,7 +7,6 @@ use Rattle.image.specs.declared.Refusal.{Refusal}
 use Rattle.image.specs.Limits.{depth_limit}
 use Rattle.verdict.specs.Answers.{refused_at}
 use Rattle.check_shape.proofs.Answers.{from_end, from_next, from_here}
-use borrow.Author.Rules.{rules}
 use Rattle.check_shape.proofs.depths.first_deep.Goals as goal
 
 pub returns-then-mark_of-gt-DEEPEST : goal.returns-then-mark_of-gt-DEEPEST
@@ -16,16 +15,16 @@ returns-then-mark_of-gt-DEEPEST c =
     let d = get_or c.args.depths.now l.i 0 in
     let z = c.mark_of.ensures in
     let deep = lt-leb d depth_limit (omega (arith, c.if-mark_of-gt-DEEPEST.true)) in
-    sym (l.invariant.1 ∙ from_here _ _ _ _ l.i (omega arith) deep ∙ ap (λ o. refused_at Refusal.TooDeep o) (sym c.offset_of.ensures))
+    sym (l.invariant ∙ from_here _ _ _ _ l.i (omega arith) deep ∙ ap (λ o. refused_at Refusal.TooDeep o) (sym c.offset_of.ensures))
 
 pub loop-i-preserved : goal.loop-i-preserved
 loop-i-preserved c =
     let l = c.loop-i in
     let d = get_or c.args.depths.now l.i 0 in
     let z = c.mark_of.ensures in
-    (search rules, l.invariant.1 ∙ from_next _ _ _ _ l.i (omega arith) (le-leb d depth_limit (omega (arith, c.if-mark_of-gt-DEEPEST.false))))
+    l.invariant ∙ from_next _ _ _ _ l.i (omega arith) (le-leb d depth_limit (omega (arith, c.if-mark_of-gt-DEEPEST.false)))
 
 pub returns : goal.returns
 returns c =
     let l = c.loop-i in
-    sym (l.invariant.1 ∙ from_end _ _ _ _ l.i (omega arith))
+    sym (l.invariant ∙ from_end _ _ _ _ l.i (omega arith))

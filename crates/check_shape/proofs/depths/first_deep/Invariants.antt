@@ -1,11 +1,8 @@
 -- `check_shape::depths::first_deep` meets its contract: the loop keeps what is required of the terms from i on.
-use Prim.Native.Nat.{◌-◌, ◌≤◌}
+use Prim.Native.Nat.{◌-◌}
 use mathlib.Core.Path.{◌≡◌}
 use Rattle.check_shape.specs.Depths.{deep_from}
 use Rattle.check_shape.proofs.depths.first_deep.Given as goal
 
 abbrev pub invariant-loop-i : goal.invariant-loop-i
-invariant-loop-i l = (l.i ≤ l.end.0) × (deep_from l.terms l.depths l.end.0 0 ≡ deep_from l.terms l.depths (l.end.0 - l.i) l.i)
-
-abbrev pub decreases-loop-i : goal.decreases-loop-i
-decreases-loop-i l = l.end.0 - l.i
+invariant-loop-i l = (deep_from l.terms l.depths l.i-end 0 ≡ deep_from l.terms l.depths (l.i-end - l.i) l.i)

@@ -1,5 +1,4 @@
 -- The loop marks what one entry after another names; the rest of the entries is left.
-use borrow.Author.Rules.{rules}
 use Prim.Native.Nat.{◌+◌}
 use mathlib.Core.Path.{◌≡◌, ap, subst, sym, ◌∙◌}
 use mathlib.Core.List.{foldl-append}
@@ -20,7 +19,7 @@ mark_entry-requires c =
     let first = c.field_count-before.result + c.child_count.result in
     let count = c.entry_count-count.result in
     let e = next_left fs first count l.j v.result c.loop-j-test.true v.ensures in
-    lower_first (length l.depths) (as_child an_entry v.result) (entries_left fs first count (l.j + 1)) (subst (λ es. Lower (length l.depths) es) e l.invariant.2)
+    lower_first (length l.depths) (as_child an_entry v.result) (entries_left fs first count (l.j + 1)) (subst (λ es. Lower (length l.depths) es) e l.invariant.1)
 
 pub loop-j-preserved : goal.loop-j-preserved
 loop-j-preserved c =
@@ -37,5 +36,5 @@ loop-j-preserved c =
     let ds = c.mark_entry.new.depths in
     let kept : length ds ≡ length l.depths = c.mark_entry.auto.depths in
     let deep : set_all (entries_left fs first count l.j) a.d l.depths ≡ set_all gs a.d ds = ap (λ xs. set_all xs a.d l.depths) e ∙ foldl-append _ l.depths es gs ∙ ap (λ xs. set_all gs a.d xs) (sym m.ensures) in
-    let below = lower_rest (length l.depths) es gs (subst (λ xs. Lower (length l.depths) xs) e l.invariant.2) in
-    (search rules, kept ∙ l.invariant.1, subst (λ q. Lower q gs) (sym kept) below, l.invariant.3 ∙ deep)
+    let below = lower_rest (length l.depths) es gs (subst (λ xs. Lower (length l.depths) xs) e l.invariant.1) in
+    (kept ∙ l.invariant.0, subst (λ q. Lower q gs) (sym kept) below, l.invariant.2 ∙ deep)

@@ -1,5 +1,4 @@
 -- The loop marks what one entry after another names; the rest of the entries is left.
-use Prim.Native.Nat.{◌-◌, ◌≤◌}
 use mathlib.Core.Path.{◌≡◌}
 use lib.ListN.{length}
 use Rattle.verdict.specs.Shape.{set_all}
@@ -10,10 +9,6 @@ use Rattle.check_shape.proofs.descent.mark_entries.Given as goal
 
 abbrev pub invariant-loop-j : goal.invariant-loop-j
 invariant-loop-j l =
-    (l.j ≤ l.count)
-    × (length l.depths ≡ length l.initial.depths)
+    (length l.depths ≡ length l.initial.depths)
     × Lower (length l.depths) (entries_left l.fields l.first l.count l.j)
     × (set_all (entries_of l.code l.fields) l.d l.initial.depths ≡ set_all (entries_left l.fields l.first l.count l.j) l.d l.depths)
-
-abbrev pub decreases-loop-j : goal.decreases-loop-j
-decreases-loop-j l = l.count - l.j

@@ -8,7 +8,6 @@ use Rattle.verdict.proofs.Changes.{fold_next, fold_end}
 use Rattle.read_records.specs.Codes.{children_in}
 use Rattle.read_records.specs.Heads.{field_in, side_of}
 use Rattle.check_uses.proofs.ChildByChild.{side_length, side_is}
-use borrow.Author.Rules.{rules}
 use Rattle.check_shape.proofs.descent.mark_side.Goals as goal
 
 pub field_as-e-requires : goal.field_as-e-requires
@@ -38,7 +37,7 @@ loop-j-preserved c =
     let h : l.j < length cs = rw (side_length x fs) n in
     let e : c.field_as-e.result.0 ≡ get_or cs l.j 0 = c.field_as-e.ensures ∙ ap (λ i. field_in fs (i + l.j)) c.field_count-first.ensures ∙ side_is x fs l.j n in
     let r : c.set_mark.new.marks ≡ set l.depths (get_or cs l.j 0) a.d = rw e at m.ensures in
-    (search rules, c.set_mark.auto.marks ∙ l.invariant.1, l.invariant.2 ∙ fold_next (λ ds n. set ds n a.d) cs l.depths l.j h ∙ ap (λ ds. set_all (drop (l.j + 1) cs) a.d ds) (sym r))
+    (c.set_mark.auto.marks ∙ l.invariant.0, l.invariant.1 ∙ fold_next (λ ds n. set ds n a.d) cs l.depths l.j h ∙ ap (λ ds. set_all (drop (l.j + 1) cs) a.d ds) (sym r))
 
 pub returns : goal.returns
 returns c =
@@ -46,4 +45,4 @@ returns c =
     let a = c.args in
     let cs = side_of a.code a.fields.now in
     let h : length cs ≤ l.j = rw (side_length a.code a.fields.now) (omega (arith, c.child_count-count.ensures)) in
-    sym (l.invariant.2 ∙ fold_end (λ ds n. set ds n a.d) cs l.depths l.j h)
+    sym (l.invariant.1 ∙ fold_end (λ ds n. set ds n a.d) cs l.depths l.j h)

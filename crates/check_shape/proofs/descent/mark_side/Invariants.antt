@@ -1,5 +1,4 @@
 -- `check_shape::descent::mark_side` meets its contract: the loop marks one child after another; the rest of the list is left.
-use Prim.Native.Nat.{◌-◌, ◌≤◌}
 use mathlib.Core.Path.{◌≡◌}
 use lib.ListN.{length, drop}
 use Rattle.verdict.specs.Shape.{set_all}
@@ -8,7 +7,4 @@ use Rattle.check_shape.proofs.descent.mark_side.Given as goal
 
 abbrev pub invariant-loop-j : goal.invariant-loop-j
 invariant-loop-j l =
-    (l.j ≤ l.count) × (length l.depths ≡ length l.initial.depths) × (set_all (side_of l.code l.fields) l.d l.initial.depths ≡ set_all (drop l.j (side_of l.code l.fields)) l.d l.depths)
-
-abbrev pub decreases-loop-j : goal.decreases-loop-j
-decreases-loop-j l = l.count - l.j
+    (length l.depths ≡ length l.initial.depths) × (set_all (side_of l.code l.fields) l.d l.initial.depths ≡ set_all (drop l.j (side_of l.code l.fields)) l.d l.depths)

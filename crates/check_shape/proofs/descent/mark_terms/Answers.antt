@@ -17,13 +17,12 @@ loop-i-preserved c =
     let s = c.mark_term in
     let after = c.mark_term.new.depths in
     let test = c.loop-i-test.true in
-    let inside = c.loop-i.invariant.0 in
     let same = c.requires.1.same (l.i - 1) (omega arith) in
     let next = capped_next L l.i l.depths cs (omega arith) same in
-    (omega arith, c.mark_term.auto.depths ∙ l.invariant.1, l.invariant.2 ∙ next ∙ ap (λ ds. capped_from L (l.i - 1) ds) (sym s.ensures))
+    (c.mark_term.auto.depths ∙ l.invariant.0, l.invariant.1 ∙ next ∙ ap (λ ds. capped_from L (l.i - 1) ds) (sym s.ensures))
 
 pub returns : goal.returns
 returns c =
     let l = c.loop-i in
     let L = records_of c.args.image.now in
-    sym (l.invariant.2 ∙ capped_end L l.i l.depths (omega arith))
+    sym (l.invariant.1 ∙ capped_end L l.i l.depths (omega arith))

@@ -1,5 +1,4 @@
 -- The loop goes down from the root; the lower terms are left.
-use Prim.Native.Nat.{◌≤◌}
 use mathlib.Core.Path.{◌≡◌}
 use lib.ListN.{length}
 use Rattle.image.specs.Layout.{records_of}
@@ -8,9 +7,5 @@ use Rattle.check_shape.proofs.descent.mark_terms.Given as goal
 
 abbrev pub invariant-loop-i : goal.invariant-loop-i
 invariant-loop-i l =
-    (l.i ≤ length l.terms)
-    × (length l.depths ≡ length l.initial.depths)
+    (length l.depths ≡ length l.initial.depths)
     × (capped_from (records_of l.image) (length l.terms) l.initial.depths ≡ capped_from (records_of l.image) l.i l.depths)
-
-abbrev pub decreases-loop-i : goal.decreases-loop-i
-decreases-loop-i l = l.i

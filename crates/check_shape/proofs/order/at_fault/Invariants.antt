@@ -1,11 +1,6 @@
 -- The loop keeps: the row gathered so far shows a fault if some e so far is one.
-use Prim.Native.Nat.{◌-◌, ◌≤◌}
-use Rattle.image.specs.Limits.{domain_limit}
 use Rattle.check_shape.proofs.Named.{FoundTo}
 use Rattle.check_shape.proofs.order.at_fault.Given as goal
 
 abbrev pub invariant-loop-e : goal.invariant-loop-e
-invariant-loop-e l = (l.e ≤ domain_limit) × FoundTo l.o l.n l.i l.e l.named
-
-abbrev pub decreases-loop-e : goal.decreases-loop-e
-decreases-loop-e l = domain_limit - l.e
+invariant-loop-e l = FoundTo l.o l.n l.i l.e l.named

@@ -18,7 +18,7 @@ loop-f-preserved c =
     let here : l.f < length l.row = omega arith in
     let in_a : l.f < length a.a = search rules in
     let in_b : l.f < length a.b = search rules in
-    (omega arith, simp length-set l.invariant.1, rw c.either.ensures (either_more l.row a.a a.b l.f here in_a in_b ∙ l.invariant.2))
+    (simp length-set l.invariant.0, either_more l.row a.a a.b l.f here in_a in_b ∙ l.invariant.1)
 
 pub returns : goal.returns
 unfolding either_row
@@ -28,4 +28,4 @@ returns c =
     let h : l.f ≡ domain_limit = omega arith in
     let in_a : length a.a ≤ domain_limit = search rules in
     let in_b : length a.b ≤ domain_limit = search rules in
-    sym (take_all domain_limit l.row (omega arith)) ∙ sym (append-nil _) ∙ ap (take domain_limit l.row ++◌) (sym (rw (drop_of_length-le a.a in_a, drop_of_length-le a.b in_b))) ∙ rw h at l.invariant.2
+    sym (take_all domain_limit l.row (omega arith)) ∙ sym (append-nil _) ∙ ap (take domain_limit l.row ++◌) (sym (rw (drop_of_length-le a.a in_a, drop_of_length-le a.b in_b))) ∙ rw h at l.invariant.1

@@ -5,20 +5,19 @@ use mathlib.Core.Path.{ap, sym, ◌∙◌}
 use Rattle.image.specs.declared.Refusal.{Refusal}
 use Rattle.verdict.specs.Answers.{refused_at}
 use Rattle.check_shape.proofs.Answers.{from_end, from_next, from_here}
-use borrow.Author.Rules.{rules}
 use Rattle.check_shape.proofs.order.first_unordered.Goals as goal
 
 pub returns-then-at_fault : goal.returns-then-at_fault
 returns-then-at_fault c =
     let l = c.loop-d in
-    sym (l.invariant.1 ∙ from_here _ _ _ _ l.d (omega arith) (ap not (sym c.at_fault.ensures ∙ c.if-at_fault.true)) ∙ ap (λ o. refused_at Refusal.DomainOrder o) (sym c.offset_of.ensures))
+    sym (l.invariant ∙ from_here _ _ _ _ l.d (omega arith) (ap not (sym c.at_fault.ensures ∙ c.if-at_fault.true)) ∙ ap (λ o. refused_at Refusal.DomainOrder o) (sym c.offset_of.ensures))
 
 pub loop-d-preserved : goal.loop-d-preserved
 loop-d-preserved c =
     let l = c.loop-d in
-    (search rules, l.invariant.1 ∙ from_next _ _ _ _ l.d (omega arith) (ap not (sym c.at_fault.ensures ∙ c.if-at_fault.false)))
+    l.invariant ∙ from_next _ _ _ _ l.d (omega arith) (ap not (sym c.at_fault.ensures ∙ c.if-at_fault.false))
 
 pub returns : goal.returns
 returns c =
     let l = c.loop-d in
-    sym (l.invariant.1 ∙ from_end _ _ _ _ l.d (omega arith))
+    sym (l.invariant ∙ from_end _ _ _ _ l.d (omega arith))

@@ -1,14 +1,9 @@
 -- The loop keeps: some f so far.
-use Prim.Native.Nat.{◌-◌, ◌≤◌}
 use mathlib.Core.Bool.{false, not, ◌&&◌}
 use mathlib.Core.Path.{◌≡◌}
 use lib.ListN.{get_or}
 use Rattle.laws.specs.Tests.{any_below}
-use Rattle.image.specs.Limits.{domain_limit}
 use Rattle.check_shape.proofs.order.gap_in.Given as goal
 
 abbrev pub invariant-loop-f : goal.invariant-loop-f
-invariant-loop-f l = (l.f ≤ domain_limit) × (l.found ≡ any_below l.f (λ k. get_or l.b k false && not (get_or l.a k false)))
-
-abbrev pub decreases-loop-f : goal.decreases-loop-f
-decreases-loop-f l = domain_limit - l.f
+invariant-loop-f l = (l.found ≡ any_below l.f (λ k. get_or l.b k false && not (get_or l.a k false)))

@@ -9,7 +9,6 @@ use Rattle.verdict.specs.Domains.{bits}
 use Rattle.read_records.specs.Heads.{fields_at, field_in}
 use Rattle.read_records.proofs.Parts.{bytes_length, field_is}
 use Rattle.check_shape.proofs.Orders.{rows_none, rows_more, rows_all}
-use borrow.Author.Rules.{rules}
 use Rattle.check_shape.proofs.order.order_of.Goals as goal
 
 pub fields_at-fields-requires : goal.fields_at-fields-requires
@@ -34,8 +33,8 @@ loop-d-preserved c =
     let m = D.mask in
     let at = ap (fields_at b) c.offset_of.ensures in
     let mask = c.mask_of.ensures ∙ ap (λ fs. field_in fs 0) (c.fields_at-fields.ensures ∙ at) ∙ field_is b o (length_at b o) 0 (omega arith) in
-    let row = c.row_of-row.ensures ∙ ap (bits domain_limit) mask in
-    (omega arith, rows_more (records_of b) b ds c.requires l.o l.d (omega arith) l.invariant.1 _ row)
+    let row = c.row_of.ensures ∙ ap (bits domain_limit) mask in
+    rows_more (records_of b) b ds c.requires l.o l.d (omega arith) l.invariant _ row
 
 pub returns : goal.returns
 returns c =
@@ -43,7 +42,7 @@ returns c =
     let b = c.args.image.now in
     let ds = c.args.doms.now in
     let e : l.d ≡ length ds = omega arith in
-    rows_all (records_of b) b ds c.requires l.o (rw e at l.invariant.1)
+    rows_all (records_of b) b ds c.requires l.o (rw e at l.invariant)
 
 pub loop-d-init : goal.loop-d-init
-loop-d-init c = (search rules, rows_none _)
+loop-d-init c = rows_none _

@@ -15,11 +15,11 @@ loop-q-preserved c =
     let l = c.loop-q in
     let h : l.q < length l.row = omega arith in
     let s : domain_limit - l.q ≡ suc (domain_limit - (l.q + 1)) = omega arith in
-    (omega arith, simp length-set l.invariant.1, row_more l.row l.q l.m (domain_limit - (l.q + 1)) h ∙ rw (← s) l.invariant.2)
+    (simp length-set l.invariant.0, row_more l.row l.q l.m (domain_limit - (l.q + 1)) h ∙ rw (← s) l.invariant.1)
 
 pub returns : goal.returns
 unfolding bits
 returns c =
     let l = c.loop-q in
     let h : l.q ≡ domain_limit = omega arith in
-    sym (take_all domain_limit l.row (omega arith)) ∙ sym (append-nil _) ∙ rw h at l.invariant.2
+    sym (take_all domain_limit l.row (omega arith)) ∙ sym (append-nil _) ∙ rw h at l.invariant.1

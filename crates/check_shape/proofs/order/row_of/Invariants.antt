@@ -1,5 +1,5 @@
 -- The loop keeps: the bits done, and those of what is left of the mask.
-use Prim.Native.Nat.{◌≤◌, ◌-◌}
+use Prim.Native.Nat.{◌-◌}
 use mathlib.Core.Path.{◌≡◌}
 use mathlib.Core.List.{◌++◌}
 use lib.ListN.{length, take}
@@ -8,7 +8,4 @@ use Rattle.verdict.specs.Domains.{bits}
 use Rattle.check_shape.proofs.order.row_of.Given as goal
 
 abbrev pub invariant-loop-q : goal.invariant-loop-q
-invariant-loop-q l = (l.q ≤ domain_limit) × (length l.row ≡ domain_limit) × (take l.q l.row ++ bits (domain_limit - l.q) l.m ≡ bits domain_limit l.mask)
-
-abbrev pub decreases-loop-q : goal.decreases-loop-q
-decreases-loop-q l = domain_limit - l.q
+invariant-loop-q l = (length l.row ≡ domain_limit) × (take l.q l.row ++ bits (domain_limit - l.q) l.m ≡ bits domain_limit l.mask)
