@@ -12,7 +12,7 @@ def text(*path):
 
 def cases(crate, module, function, enum):
     """What a function of specs/ gives each constructor of an enum."""
-    found = re.findall(rf"^{function} \(?{enum}\.(\w+)[^=\n]*= (\d+)$", text("crates", crate, "specs", module), re.M)
+    found = re.findall(rf"^{function} \(?(?:Err \()?{enum}\.(\w+)[^=\n]*= (\d+)$", text("crates", crate, "specs", module), re.M)
     return {name: int(number) for name, number in found}
 
 
@@ -97,7 +97,6 @@ OTHER_CONSTANTS = {
     "check_repeats/keys.rt": {"RANGE"},
     "check_uses/children.rt": {"USED"},
     "load/main.rt": {"MOST"},
-    "need_sums/sums.rt": {"LARGEST"},
     "read_records/kinds.rt": {"UNIT_TYPE"},
     "read_records/table.rt": {"CHILDREN", "GROUP", "LEAD", "LAST", "LEAST"},
     "report/fixed.rt": {"LOG"},
@@ -249,7 +248,7 @@ class Numbers(unittest.TestCase):
 
     def test_refusals(self):
         causes = cases("image", "Refusals.antt", "refusal_number", "Refusal")
-        causes["OutsideClass"] = cases("image_needs", "Forecasts.antt", "forecast_number", "Forecast")["OutsideClass"]
+        causes["OutsideClass"] = cases("image_needs", "Forecasts.antt", "forecast_number", "Unforeseen")["OutsideClass"]
         causes["ShortOutput"] = constants("write_fixed", "Calls.antt")["short_output"]
         load = constants("write_load", "Loads.antt")
         causes |= {"WrongDepth": load["wrong_depth"], "ShortLoad": load["short_load"]}

@@ -22,7 +22,6 @@ use Rattle.image.specs.Types.{term_place, term_kind, others, root_of}
 use Rattle.image.specs.Program.{Program, Programs, node, blank, end, more, program, nth, behind, close_of, entry_of, pattern_of, assemble_as, assemble, to_tm, to_tms}
 use Rattle.image.proofs.Laid.{LayoutOk}
 use Rattle.image.proofs.EveryKind.{every_of, at_term}
-use Rattle.verdict.specs.Answers.{Verdict}
 use Rattle.verdict.specs.Shape.{used_once}
 use Rattle.verdict.specs.Verdicts.{verdict}
 use Rattle.verdict.proofs.Passed.{passed_iff}

@@ -1,5 +1,5 @@
 // Tables of pieces: what all advice takes of them at a mark, for each number of values that may be kept around it.
-ghost use Rattle.std.specs.Prelude.{◌≡◌, ◌+◌, ◌-◌, ◌≤◌, ◌<◌, max, length, get_or};
+ghost use Rattle.std.specs.Prelude.{◌≡◌, ◌+◌, ◌-◌, ◌≤◌, ◌<◌, max, get_or};
 ghost use Rattle.need_sums.specs.Sums.{cut};
 ghost use Rattle.need_sums.specs.Walks.{place_limit};
 ghost use Rattle.need_sums.specs.Rows.{row_count, table_length, at_mark, Changed, pieces_of, own_pieces, Summed};

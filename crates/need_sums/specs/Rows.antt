@@ -52,20 +52,6 @@ pieces_of Own.TwoBindings k = 0
 pieces_of Own.Stack k = k
 pieces_of Own.Mark k = 0
 
-abbrev pub takes_pieces : Own → Bool
-takes_pieces Own.Nothing = false
-takes_pieces Own.Step = false
-takes_pieces Own.Label = false
-takes_pieces Own.Print = false
-takes_pieces Own.Advice = false
-takes_pieces Own.Cell = false
-takes_pieces Own.Piece = true
-takes_pieces Own.Advised = true
-takes_pieces Own.Binding = false
-takes_pieces Own.TwoBindings = false
-takes_pieces Own.Stack = true
-takes_pieces Own.Mark = false
-
 -- A term runs in the body of an advice.
 abbrev pub in_body : Mode → Bool
 in_body Mode.Skip = false

@@ -3,24 +3,21 @@ use Prim.Native.Nat.{ℕ, zero, suc, ◌+◌, ◌≤◌, ◌<◌, min}
 use native.Mathlib.Omega.{arith}
 use native.Mathlib.Numerals.{add-one}
 use mathlib.Core.Path.{◌≡◌, refl, sym, ap, ◌∙◌}
-use mathlib.Core.Bool.{Bool, true, false, not, ◌&&◌}
+use mathlib.Core.Bool.{Bool, true, false}
 use mathlib.Core.List.{List, [], ◌∷◌, ◌++◌}
 use lib.ListN.{length, get_or, take}
-use lib.Dec.{eqb, leb, ltb}
+use lib.Dec.{ltb}
 use lib.Seq.{take-suc, take_all, length-take-le}
-use borrow.Author.Tests.{ne_eqb, ltb-true, ltb-false}
+use borrow.Author.Tests.{ltb-true, ltb-false}
 use Rattle.calculus.specs.Combinators.{choose}
-use Rattle.laws.proofs.Booleans.{and_l, and_r, not_t, le_of}
-use Rattle.image.specs.Kinds.{Body, here, function_body, advice_body, split_body, lower_body, object_body, match_body, TermKind, term_row, bodies, body_of}
+use Rattle.image.specs.Kinds.{body_of}
 use Rattle.image.specs.Records.{Layout}
 use Rattle.image.specs.Layout.{records_of}
 use Rattle.image.specs.Types.{term_kind, children}
 use Rattle.image.proofs.Laid.{LayoutOk, Below}
-use Rattle.image.proofs.EveryKind.{every_of, at_term}
 use Rattle.read_terms.specs.Lent.{Terms, IsTerm}
 use Rattle.read_terms.proofs.Located.{child_lower}
-use Rattle.read_terms.proofs.Elimination.{apart}
-use Rattle.image_needs.specs.Faults.{permits, outside, least, permitted, lowest}
+use Rattle.image_needs.specs.Faults.{outside, least, permitted, lowest}
 use Rattle.need_terms.specs.First.{lowest_at}
 
 -- A list without elements has no first.

@@ -52,10 +52,8 @@ pub fn walk(
     requires { Lent image.now terms.now descriptors.now × IsTerm image.now at.term.0 × Placed (records_of image.now) at.position at.term.0 × Known (records_of image.now) at.position each rows.now }
     ensures { result ≡ cut_needs (counted (term_at (records_of image.now) (root_of (records_of image.now))) at.position (term_at (records_of image.now) at.term.0)) }
 {
-    let Visit {
-        term: n,
-        position: s,
-    } = at;
+    let n = at.term;
+    let s = at.position;
     if s.mode == Mode::Skip {
         return Needs::default();
     }
