@@ -1,19 +1,2 @@
-// Laws of truths, tests and lists that many crates cite (proofs/), the tests that the definitions are made of (specs/), and
-// here the functions on two truths that are both known.
+// Laws of truths, tests and lists that many crates cite (proofs/), and the tests that the definitions are made of (specs/).
 #![tactic(auto)]
-
-ghost use Rattle.std.specs.Prelude.{◌≡◌, ◌&&◌, ◌||◌};
-
-// Both hold.
-pub fn both(a: bool, b: bool) -> bool
-    ensures { result ≡ (a && b) }
-{
-    a && b
-}
-
-// One of them holds.
-pub fn either(a: bool, b: bool) -> bool
-    ensures { result ≡ (a || b) }
-{
-    a || b
-}
