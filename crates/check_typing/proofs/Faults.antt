@@ -24,9 +24,6 @@ module _ (L : Layout) where
   pub fault_accepted : (f : ℕ) → f ≡ 0 → is_err (verdict_at L f) ≡ false
   fault_accepted f h = rw (eq-eqb f 0 h) refl
 
-  pub no_fault : (f : ℕ) → f ≡ 0 → (Ok tt) ≡ verdict_at L f
-  no_fault f h = rw (eq-eqb f 0 h) refl
-
   pub fault_at_lem : (f : ℕ) {r : Refusal} {place : ℕ} → (f ≡ 0 → ⊥) → r ≡ refusal_with (f % 4) → place ≡ term_place L (f / 4 % 65536) → f / 4 < 65536 → refused_at r place ≡ verdict_at L f
   fault_at_lem f h e q l =
       let z : f / 4 % 65536 ≡ f / 4 = omega arith in

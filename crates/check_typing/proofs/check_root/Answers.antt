@@ -6,29 +6,10 @@ use borrow.Author.Tests.{leb-true, leb-false}
 use Rattle.image.specs.Layout.{records_of}
 use Rattle.verdict.specs.Check.{checked}
 use Rattle.check_rules.specs.Scopes.{setting_in}
-use Rattle.read_terms.proofs.Located.{good_of}
 use Rattle.check_typing.proofs.Root.{root_checked_lem}
 use Rattle.check_typing.proofs.TermPass.{leaf_checked}
 use Rattle.check_typing.proofs.ScopeCapacity.{root_capacity}
 use Rattle.check_typing.proofs.check_root.Goals as goal
-
-pub overflow_cast-root : goal.overflow_cast-root
-overflow_cast-root c =
-    let f = (good_of c.args.image.now c.requires.0.terms.laid_out).few_terms in
-    let e = c.requires.1 in
-    record { fits = omega arith }
-
-pub is_leaf-requires : goal.is_leaf-requires
-is_leaf-requires c =
-    let e = c.requires.1 in
-    let z = c.requires.2 in
-    (c.requires.0.terms, omega arith)
-
-pub check_leaf-requires : goal.check_leaf-requires
-check_leaf-requires c =
-    let e = c.requires.1 in
-    let z = c.requires.2 in
-    (c.requires.0, omega arith, leb-true _ _ (sym c.is_leaf.ensures ∙ c.if-is_leaf.true), omega arith)
 
 -- The root is a constant, and is the whole program, or a variable, which nothing binds.
 pub returns-then-is_leaf : goal.returns-then-is_leaf
@@ -44,12 +25,6 @@ check_here-fault-requires c =
     let e = c.requires.1 in
     let z = c.requires.2 in
     (c.requires.0, omega arith, c.requires.3, root_capacity c.requires.0.terms _ c.args.count c.requires.4 e refl, c.requires.5, leb-false _ _ (sym c.is_leaf.ensures ∙ c.if-is_leaf.false))
-
-pub verdict_of-requires : goal.verdict_of-requires
-verdict_of-requires c =
-    let e = c.requires.1 in
-    let z = c.requires.2 in
-    (c.requires.0.terms, omega (arith, e, z, c.check_here-fault.ensures.1))
 
 pub returns : goal.returns
 returns c =

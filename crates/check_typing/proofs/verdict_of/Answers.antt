@@ -7,21 +7,12 @@ use mathlib.Core.Path.{refl}
 use borrow.Author.Tests.{ne_eqb}
 use Rattle.image.specs.Layout.{records_of}
 use Rattle.read_terms.proofs.Located.{good_of}
-use Rattle.check_typing.proofs.Faults.{no_fault, fault_at_lem}
+use Rattle.check_typing.proofs.Faults.{fault_at_lem}
 use Rattle.check_typing.proofs.verdict_of.Goals as goal
 
 -- The number of a term has 16 bits.
 few : {b terms : List ℕ} (f : ℕ) → Terms b terms → f / 4 < length (records_of b).terms → f / 4 < 65536
 few {b} f T h = let few = (good_of b T.laid_out).few_terms in omega arith
-
-pub returns-then-fault-eq0 : goal.returns-then-fault-eq0
-returns-then-fault-eq0 c = no_fault (records_of c.args.image.now) c.args.fault c.if-fault-eq0.true
-
-pub term_place-at-requires : goal.term_place-at-requires
-term_place-at-requires c =
-    let f = few c.args.fault c.requires.0 c.requires.1 in
-    let h = c.requires.1 in
-    (c.requires.0, omega arith)
 
 pub returns-then-fault-eq1 : goal.returns-then-fault-eq1
 returns-then-fault-eq1 c =

@@ -6,9 +6,8 @@ use native.Mathlib.Omega.{arith}
 use mathlib.Core.Path.{◌≡◌, refl, sym, ap, ◌∙◌}
 use mathlib.Core.Bool.{Bool, false}
 use mathlib.Core.List.{List}
-use borrow.Author.Tests.{leb-true, leb-false}
+use borrow.Author.Tests.{leb-true}
 use lib.ListN.{length}
-use lib.Seq.{take-length}
 use Rattle.image.specs.Layout.{records_of}
 use Rattle.image.specs.Types.{term_kind}
 use Rattle.verdict.specs.Answers.{Verdict}
@@ -39,11 +38,6 @@ check_here-returns-then-is_err t c =
       refl,
       refl,
     )
-
-pub check_here-check_subterms-requires : goal.check_here-check_subterms-requires
-check_here-check_subterms-requires t c =
-    let ruled = passes c.args.image.now c.args.c.0 c.args.n.0 c.check_rule-v.ensures c.is_err.ensures.value c.if-is_err.false in
-    (omega (arith, c.decreases), (c.requires.0, c.requires.1, c.requires.2, c.requires.3, c.requires.4, ruled))
 
 pub check_here-child_count-k-requires : goal.check_here-child_count-k-requires
 check_here-child_count-k-requires t c = rw c.term_fields-fields.ensures (typed_in c.requires.0.terms c.requires.1).long
@@ -178,7 +172,3 @@ check_term-returns-then-is_leaf t c =
     let e = v.ensures c.args.c.0 in
     let small = leb-true _ _ (sym c.is_leaf.ensures ∙ c.if-is_leaf.true) in
     (own_back L p n e f ∙ (e ∙ leaf_checked c.requires.0.terms c.requires.1 p small), own_below v.result n f, refl, refl)
-
-pub check_term-check_here-requires : goal.check_term-check_here-requires
-check_term-check_here-requires t c =
-    (omega (arith, c.decreases), rw (take-length c.args.image.now) (c.requires.0, c.requires.1, c.requires.2, c.requires.3, c.requires.4, leb-false _ _ (sym c.is_leaf.ensures ∙ c.if-is_leaf.false)))
