@@ -1,31 +1,30 @@
 -- What a reduction makes of the state, by the tests that lead there.
-use Prim.Native.Nat.{ℕ, ◌+◌, ◌-◌, ◌%◌, ◌≤◌, ◌<◌}
+use Prim.Native.Nat.{ℕ, ◌+◌, ◌-◌, ◌%◌, ◌<◌}
 use mathlib.Core.Path.{◌≡◌, refl, sym, ap, subst, ◌∙◌}
-use mathlib.Core.Bool.{Bool, true, false}
+use mathlib.Core.Bool.{Bool, true}
 use mathlib.Core.List.{List}
 use lib.Dec.{ltb}
 use lib.Bits.{bit_or}
-use borrow.Author.Tests.{lt-ltb, le-ltb}
+use borrow.Author.Tests.{lt-ltb}
 use Rattle.calculus.specs.declared.Outcome.{Outcome}
 use Rattle.calculus.specs.Limits.{binding_limit, cell_limit, label_limit, advice_limit}
-use Rattle.calculus.specs.Report.{outcome_number}
 use Rattle.vm_code.specs.Values.{value, cell_tag, label_tag, advice_tag, body_of, unit_value}
 use Rattle.vm_code.specs.Words.{field_b, field_c, is_instruction, target_count}
 use Rattle.vm_pools.specs.declared.Pools.{Pools}
 use Rattle.vm_machine.specs.declared.Regs.{Regs}
-use Rattle.vm_machine.specs.Registers.{fuel_bias, set_fuel, set_pools, set_labels, set_installed, halt_with, halt, stepped}
+use Rattle.vm_machine.specs.Registers.{fuel_bias, set_fuel, set_pools, set_labels, set_installed}
 use Rattle.vm_pools.specs.Pools.{whole, charge_bindings, charge_cells, has_capacity, bindings_out, cells_out}
 use Rattle.vm_machine.specs.Quotas.{quota_of}
 use Rattle.vm_machine.specs.Memory.{Memory, binding, put_binding, closure_env, piece_first, piece_second, piece_of, advice_word, put_installed, cell_at, cell_note, cell_of, put_cell}
 use Rattle.vm_machine.specs.States.{State, with_regs, with_memory}
 use Rattle.vm_machine.specs.Fetch.{Program, called}
-use Rattle.vm_machine.specs.Reduce.{given, new_piece, reduce_apply, reduce_split, reduce_store, reduce_cell, reduce_label, reduce_advice, reduce_install, reduce_abort}
+use Rattle.vm_machine.specs.Reduce.{given, new_piece, reduce_apply, reduce_split, reduce_store, reduce_cell, reduce_label, reduce_advice, reduce_install}
 use Rattle.vm_machine.specs.Turn.{call_body}
 use Rattle.vm_memory.specs.View.{memory_of, Holds}
 use Rattle.vm_registers.specs.Phases.{state_of, Phase}
-use Rattle.vm_registers.proofs.Made.{as_phase, regs_made, stored_then, stored_set, then_set, set_either}
-use Rattle.vm_registers.proofs.Ended.{full_made, capacity_made, left_made, given_as}
-use Rattle.vm_registers.proofs.Quotas.{quota_made, quota_full, quota_spent}
+use Rattle.vm_registers.proofs.Made.{as_phase, stored_then, stored_set, then_set, set_either}
+use Rattle.vm_registers.proofs.Ended.{capacity_made, left_made, given_as}
+use Rattle.vm_registers.proofs.Quotas.{quota_made}
 
 -- After a call, a step and the bindings are counted: so much is in use, and l is left.
 abbrev pub counted : Pools → ℕ → Regs → Regs
@@ -62,21 +61,12 @@ module _ (C : Program) (a b c : List ℕ) (r q : Regs) (w x y : ℕ) (h t : Bool
       quota_made binding_limit 1 (λ p. p.bindings) bindings_out w r h t is test _ a q c left k
       (record { represents = λ log. (stored_then (called C w (body_of x % target_count) N) M a b c R q (bound_as a b n N y e (closure_env x) d i m) p₂).represents log })
 
-  pub no_apply_made : (o : ℕ) → t ≡ false → o ≡ outcome_number (bindings_out h) → q ≡ halt_with o r.fuel r → Phase (reduce_apply C w x y) a a r q
-  no_apply_made = quota_full binding_limit 1 (λ p. p.bindings) bindings_out w r h t is test _ a q
-
 -- A call of the body at the target g on the object x, whose environment is e.
 module _ (C : Program) (a b c : List ℕ) (r q : Regs) (w x g : ℕ) (h t : Bool) (is : h ≡ quota_of w) (test : t ≡ has_capacity binding_limit h 1 r.pools.bindings) where
   pub call_made : fuel_bias < r.fuel → (n e : ℕ) (s : Pools) → t ≡ true → n ≡ whole r.pools.bindings → e ≡ closure_env x → s ≡ charge_bindings h 1 r.pools → Holds (put_binding n (binding x 0 e) (memory_of a)) a b → Phase (called C w g n) b c r q → Phase (call_body C w x g) a c r (counted s (r.fuel - 1) q)
   call_made left n e s k d i j m p =
       bindings_charged (call_body C w x g) a c r q w 1 (r.fuel - 1) h s is j
       (quota_made binding_limit 1 (λ p. p.bindings) bindings_out w r h t is test _ a _ c left k (stored_called C _ _ a b c r q w g _ n _ _ _ refl d (λ log. refl) (bound_as a b n _ x e _ d i m) p))
-
-  pub spent_call_made : r.fuel ≤ fuel_bias → t ≡ true → q ≡ halt Outcome.Spent r → Phase (call_body C w x g) a a r q
-  spent_call_made = quota_spent binding_limit 1 (λ p. p.bindings) bindings_out w r h t is test _ a q
-
-  pub no_call_made : (o : ℕ) → t ≡ false → o ≡ outcome_number (bindings_out h) → q ≡ halt_with o r.fuel r → Phase (call_body C w x g) a a r q
-  no_call_made = quota_full binding_limit 1 (λ p. p.bindings) bindings_out w r h t is test _ a q
 
 -- Bindings of the two parts of pair p: their values are u and v.
 pub parts_made : (a b c : List ℕ) (i p env u v : ℕ) → u ≡ piece_first (memory_of a) p → v ≡ piece_second (memory_of a) p → Holds (put_binding i (binding u 0 env) (memory_of a)) a b → Holds (put_binding (i + 1) (binding v 0 i) (memory_of b)) b c → Holds (put_binding (i + 1) (binding (piece_second (memory_of a) p) 0 i) (put_binding i (binding (piece_first (memory_of a) p) 0 env) (memory_of a))) a c
@@ -98,19 +88,12 @@ module _ (C : Program) (a b c : List ℕ) (r q : Regs) (w x : ℕ) (h t : Bool) 
       bindings_charged (reduce_split C w x) a c r q w 2 (r.fuel - 1) h s is j
       (quota_made binding_limit 2 (λ p. p.bindings) bindings_out w r h t is test _ a _ c left k (stored_called C _ _ a b c r q w g _ (n + 1) _ _ _ f (ap (λ (z : ℕ). z + 1) d) (λ log. refl) (subst (λ (K : Memory). Holds K a b) (ap (λ (z : ℕ). bound z p) d ∙ ap (bound N) e) m) i))
 
-  pub no_split_made : (o : ℕ) → t ≡ false → o ≡ outcome_number (bindings_out h) → q ≡ halt_with o r.fuel r → Phase (reduce_split C w x) a a r q
-  no_split_made = quota_full binding_limit 2 (λ p. p.bindings) bindings_out w r h t is test _ a q
-
 -- A store of y in the cell x, whose number is k.
 pub store_made : (a b c : List ℕ) (r q : Regs) (w x y k : ℕ) → fuel_bias < r.fuel → k ≡ cell_of x → Holds (put_cell k y (cell_note (cell_at (memory_of a) k)) (memory_of a)) a b → Phase (given w unit_value) b c r q → Phase (reduce_store w x y) a c r q
 store_made a b c r q w x y k left e h p =
     let M : Memory = put_cell (cell_of x) y (cell_note (cell_at (memory_of a) (cell_of x))) (memory_of a) in
     let m : Holds M a b = subst (λ (i : ℕ). Holds (put_cell i y (cell_note (cell_at (memory_of a) i)) (memory_of a)) a b) e h in
     left_made _ a c r q left (as_phase _ (λ S. given w unit_value (with_memory (put_cell (cell_of x) y (cell_note (cell_at S.memory (cell_of x))) S.memory) S.regs S)) a c r q (λ log. refl) (stored_then (given w unit_value) M a b c r q m p))
-
--- An abort ends the run with its step.
-pub abort_made : (a : List ℕ) (r q : Regs) → fuel_bias < r.fuel → q ≡ halt Outcome.Aborted (stepped r) → Phase reduce_abort a a r q
-abort_made a r q left e = left_made _ a a r q left (regs_made (λ S. with_regs (halt Outcome.Aborted (stepped S.regs)) S) a r q (halt Outcome.Aborted (stepped r)) (λ log. refl) e)
 
 -- One more cell of the value x, at the place n, with the note d; or no room is left in the half h.
 module _ (a b c : List ℕ) (r q : Regs) (w x : ℕ) (h t : Bool) (is : h ≡ quota_of w) (test : t ≡ has_capacity cell_limit h 1 r.pools.cells) where
@@ -122,17 +105,11 @@ module _ (a b c : List ℕ) (r q : Regs) (w x : ℕ) (h t : Bool) (is : h ≡ qu
       subst (λ (i : Pools). Phase (reduce_cell w x) a c r (set_pools i q)) (sym z)
       (quota_made cell_limit 1 (λ p. p.cells) cells_out w r h t is test _ a _ c left k (stored_set (given w (value cell_tag N)) _ (set_pools (charge_cells (quota_of w) 1 r.pools)) _ a b c r q (λ log. refl) M (given_as b c r q w v _ (f ∙ ap (value cell_tag) e) p)))
 
-  pub no_cell_made : (o : ℕ) → t ≡ false → o ≡ outcome_number (cells_out h) → q ≡ halt_with o r.fuel r → Phase (reduce_cell w x) a a r q
-  no_cell_made = quota_full cell_limit 1 (λ p. p.cells) cells_out w r h t is test _ a q
-
 -- One more label; or no room is left.
 module _ (a b : List ℕ) (r q : Regs) (w : ℕ) where
   pub label_made : fuel_bias < r.fuel → (v : ℕ) → r.labels < label_limit → v ≡ value label_tag r.labels → Phase (given w v) a b r q → Phase (reduce_label w) a b r (set_labels (r.labels + 1) q)
   label_made left v h e p =
       capacity_made (λ (S : State). ltb S.regs.labels label_limit) Outcome.Labels _ a b r _ left (λ log. lt-ltb r.labels label_limit h) (as_phase _ _ a b r _ (λ log. refl) (then_set (given w (value label_tag r.labels)) (set_labels (r.labels + 1)) a b r q (given_as a b r q w v _ e p)))
-
-  pub no_label_made : label_limit ≤ r.labels → q ≡ halt Outcome.Labels r → Phase (reduce_label w) a a r q
-  no_label_made h e = full_made (λ (S : State). ltb S.regs.labels label_limit) Outcome.Labels _ a a r q (λ log. le-ltb r.labels label_limit h) e
 
 -- An advice on the pointcut x, whose piece is p: its words are u and v, its body has the target t and its type the domain d.
 pub advice_made : (a b : List ℕ) (r q : Regs) (w x t d p u v : ℕ) → t ≡ field_b w → d ≡ field_c w → p ≡ piece_of x → u ≡ advice_word t r.env d → v ≡ piece_second (memory_of a) p → Phase (new_piece w advice_tag u v) a b r q → Phase (reduce_advice w x) a b r q
@@ -147,6 +124,3 @@ module _ (a b c : List ℕ) (r q : Regs) (w x : ℕ) where
   install_made left p s h e d m k =
       let z : s ≡ piece_second (memory_of a) (piece_of x) = d ∙ ap (piece_second (memory_of a)) e in
       subst (λ (i : ℕ). Phase (reduce_install w x) a c r (set_installed (r.installed + 1) (bit_or r.named i) q)) (sym z) (capacity_made (λ (S : State). ltb S.regs.installed advice_limit) Outcome.Advice _ a c r _ left (λ log. lt-ltb r.installed advice_limit h) (stored_set (given w unit_value) _ (set_installed (r.installed + 1) (bit_or r.named (piece_second (memory_of a) (piece_of x)))) _ a b c r q (λ log. refl) (subst (λ (i : ℕ). Holds (put_installed r.installed i (memory_of a)) a b) e m) k))
-
-  pub no_install_made : advice_limit ≤ r.installed → q ≡ halt Outcome.Advice r → Phase (reduce_install w x) a a r q
-  no_install_made h e = full_made (λ (S : State). ltb S.regs.installed advice_limit) Outcome.Advice _ a a r q (λ log. le-ltb r.installed advice_limit h) e

@@ -1,4 +1,4 @@
-use Rattle.vm_reductions.proofs.Reduced.{call_made, spent_call_made, no_call_made}
+use Rattle.vm_reductions.proofs.Reduced.{call_made}
 use Rattle.vm_registers.proofs.Quotas.{whole_capacity}
 use Rattle.vm_pools.specs.Pools.{bindings_out}
 use Rattle.calculus.specs.Limits.{binding_limit}
@@ -6,34 +6,12 @@ use native.Mathlib.Omega.{arith}
 use borrow.Author.Rules.{rules}
 use Rattle.vm_reductions.proofs.calls.call_body.Goals as goal
 
-pub returns-then-r-le-FUEL_BIAS : goal.returns-then-r-le-FUEL_BIAS
-returns-then-r-le-FUEL_BIAS c =
-    let a = c.args in
-    λ image. spent_call_made (record { code = a.code.now; image = image }) a.work.now a.work.now a.work.now a.r _ a.w a.x a.g _ _ c.quota_of-h.ensures c.has_capacity.ensures c.if-r-le-FUEL_BIAS.true c.if-has_capacity.true c.halt.ensures
-
-pub bind-requires : goal.bind-requires
-bind-requires c =
-    (search rules, omega (arith, c.whole-n.ensures, whole_capacity binding_limit 1 (λ p. p.bindings) bindings_out c.args.w c.args.r _ _ c.quota_of-h.ensures c.has_capacity.ensures c.requires.3.1.bindings c.if-has_capacity.true), omega arith, omega (arith, c.closure_env.ensures))
-
 pub called-q-requires : goal.called-q-requires
 called-q-requires c =
     let f = c.requires.3.1 in
     (search rules, search rules, omega (arith, f.frames), c.requires.2, f.pc, f.env, omega (arith, c.whole-n.ensures, whole_capacity binding_limit 1 (λ p. p.bindings) bindings_out c.args.w c.args.r _ _ c.quota_of-h.ensures c.has_capacity.ensures c.requires.3.1.bindings c.if-has_capacity.true))
 
-pub overflow_sub-q : goal.overflow_sub-q
-overflow_sub-q c =
-    omega (arith, c.if-r-le-FUEL_BIAS.false)
-
-pub charge_bindings-q-requires : goal.charge_bindings-q-requires
-charge_bindings-q-requires c =
-    omega (arith, whole_capacity binding_limit 1 (λ p. p.bindings) bindings_out c.args.w c.args.r _ _ c.quota_of-h.ensures c.has_capacity.ensures c.requires.3.1.bindings c.if-has_capacity.true)
-
 pub returns-then-has_capacity : goal.returns-then-has_capacity
 returns-then-has_capacity c =
     let a = c.args in
     λ image. call_made (record { code = a.code.now; image = image }) a.work.now _ _ a.r _ a.w a.x a.g _ _ c.quota_of-h.ensures c.has_capacity.ensures c.if-r-le-FUEL_BIAS.false _ _ _ c.if-has_capacity.true c.whole-n.ensures c.closure_env.ensures c.charge_bindings-q.ensures c.bind.ensures (c.called-q.ensures image)
-
-pub returns : goal.returns
-returns c =
-    let a = c.args in
-    λ image. no_call_made (record { code = a.code.now; image = image }) a.work.now a.work.now a.work.now a.r _ a.w a.x a.g _ _ c.quota_of-h.ensures c.has_capacity.ensures _ c.if-has_capacity.false c.bindings_out.ensures c.halt-2.ensures
