@@ -26,8 +26,8 @@ pub fn put(out: &mut [u8], at: usize, text: &[u8]) -> usize
 }
 
 // The digits above the last one first.
-// Kept: `Puts` says which bytes stand in the lent buffer where the number does not fit it; `write!` promises that of no writer over
-// a slice, and there is no heap for a String.
+// Kept: `Puts` says which bytes stand in the lent buffer also where the number does not fit into it, and nothing of the library
+// promises that of formatted text; with no heap there is no String to write it to first.
 pub fn put_decimal(out: &mut [u8], at: usize, n: u64) -> usize
     ensures { Puts out.old at (decimal n) out.new result }
 {
