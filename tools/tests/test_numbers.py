@@ -79,11 +79,9 @@ BYTE = "a byte, or the numbers that a byte holds"
 NOT_LIMITS = {
     "check_fields/lib.rt": ({256}, BYTE),
     "check_scopes/scope.rt": ({256}, BYTE),
-    "image_refusals/lib.rt": ({16}, "the number of a refusal"),
     "listing_lines/offsets.rt": ({256}, BYTE),
     "read_records/numbers.rt": ({256}, BYTE),
     "read_records/table.rt": ({16}, "four bits of a kind's code"),
-    "report/numbers.rt": ({256}, BYTE),
     "vm_matches/looks.rt": ({256}, BYTE),
     "vm_matches/operands.rt": ({256}, BYTE),
     "vm_memory/slots.rt": ({256}, BYTE),

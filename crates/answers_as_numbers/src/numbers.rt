@@ -37,12 +37,8 @@ pub fn refused_as_number(number: u16, place: usize) -> u64
 pub fn call_number(a: Answer) -> u64
     ensures { result ≡ call_number a }
 {
-    let verdict = a.verdict;
-    match verdict {
+    match a.verdict {
         Ok(()) => { (a.report % BYTE_COUNT) as u64 + LOG_UNIT * ((a.log % LOG_COUNT) as u64) }
-        Err(refused) => refused_as_number(
-            image_refusals::refusal_number(refused.why),
-            refused.place,
-        ),
+        Err(refused) => refused_as_number(u16::from(refused.why), refused.place),
     }
 }

@@ -7,8 +7,8 @@ use native.Mathlib.Numerals.{add-one}
 use mathlib.Core.Path.{◌≡◌, refl, sym, ap, ◌∙◌}
 use mathlib.Core.List.{List, [], ◌∷◌, ◌++◌, append_assoc}
 use lib.Arith.{mod-mul}
-use lib.ListN.{length, get_or, take, drop, set}
-use lib.Seq.{sets, sets-eq, drop-cons}
+use lib.ListN.{length, get_or, take, drop}
+use lib.Seq.{drop-cons}
 use Rattle.base_bytes.specs.Bytes.{AreBytes, bytes_of, number_of, over}
 
 pub length_bytes : (k n : ℕ) → length (bytes_of k n) ≡ k
@@ -50,21 +50,6 @@ pub bytes_at : (b : List ℕ) (k n : ℕ) → k + suc n ≤ length b → get_or 
 bytes_at b k n h =
     let i : gets b k 1 n ≡ take n (drop (k + 1) b) = gets_take b k 1 n (omega arith) in
     rw (drop-cons b k 0 (omega arith)) (ap (λ (x : List ℕ). get_or b k 0 ∷ x) (rw add-one at i))
-
--- Stores at k + j, at the offset after it, and so on.
-unfoldable pub stores : List ℕ → ℕ → ℕ → List ℕ → List ℕ
-stores xs k j [] = xs
-stores xs k j (v ∷ vs) = stores (set xs (k + j) v) k (suc j) vs
-
-stores_sets : (xs : List ℕ) (k j : ℕ) (vs : List ℕ) → stores xs k j vs ≡ sets xs (k + j) vs
-unfolding stores
-stores_sets xs k j [] = refl
-stores_sets xs k j (v ∷ vs) = let e : k + suc j ≡ suc (k + j) = add-suc k j in stores_sets (set xs (k + j) v) k (suc j) vs ∙ ap (λ i. sets (set xs (k + j) v) i vs) e
-
--- Bytes stored one after the other are one write.
-pub stores_over : (xs : List ℕ) (k v : ℕ) (vs : List ℕ) → k + suc (length vs) ≤ length xs → stores (set xs k v) k 1 vs ≡ over k (v ∷ vs) xs
-unfolding over
-stores_over xs k v vs h = stores_sets (set xs k v) k 1 vs ∙ ap (λ i. sets (set xs k v) i vs) (add-one k) ∙ sets-eq (v ∷ vs) xs k h
 
 -- A part of n bytes from offset k on that has become bs is one write.
 pub put_over : (k n : ℕ) (bs xs : List ℕ) → length bs ≡ n → put_mid k (k + n - k) xs bs ≡ over k bs xs

@@ -4,6 +4,9 @@
 
 pub mod outcomes;
 
+ghost use Rattle.std.specs.Prelude.{◌≡◌};
+ghost use Rattle.calculus.specs.Report.{outcome_number};
+
 // The limits of a run (document 01, "A run"), by the names of specs/Limits.antt. Unfinished terms around the next redex.
 pub const FRAME_LIMIT: usize = 512;
 
@@ -31,9 +34,9 @@ pub const WORD_SIZE: u64 = 4294967296;
 pub const SIGN_BIT: u64 = 2147483648;
 
 // How a run ends (document 01, "A run"; the last three are card 9's).
-#[derive(Clone, Copy)]
+#[derive(Clone, Copy, PartialEq, Eq)]
 pub enum Outcome {
-    Done,
+    Done = 0,
     Spent,
     Aborted,
     Frames,
@@ -46,6 +49,15 @@ pub enum Outcome {
     OtherBindings,
     OtherCells,
     OtherPieces,
+}
+
+// The number of an outcome in the report (document 01, "The report").
+impl From<Outcome> for u16 {
+    ghost from_gives = { λ o n. n ≡ outcome_number o };
+
+    fn from(o: Outcome) -> u16 {
+        o as u16
+    }
 }
 
 // A leaf of a result or of a cell; a number is its bit pattern.

@@ -7,28 +7,14 @@ ghost use Rattle.read_records.specs.Heads.{field_in};
 ghost use Rattle.check_fields.specs.Fields.{type_count, field_from, Narrow, DescriptorFrom};
 
 use read_records::fields::field_as;
-use read_records::numbers::{Counts, DomainNo, TermNo, TypeNo};
+use read_records::numbers::{Counts, Numbered};
 
-// Field i is the number of a type that is there; of a domain; of a term.
-pub fn names_type(fields: &[u8], i: usize, counts: Counts) -> bool
+// Field i is the number of a domain, a type or a term that is there.
+pub fn names<N: Numbered>(fields: &[u8], i: usize, counts: Counts) -> bool
     requires { 2 * i + 1 < length fields.now }
-    ensures { result ≡ ltb (field_in fields.now i) counts.types }
+    ensures { result ≡ ltb (field_in fields.now i) (N.count counts) }
 {
-    counts.has(field_as::<TypeNo>(fields, i))
-}
-
-pub fn names_domain(fields: &[u8], i: usize, counts: Counts) -> bool
-    requires { 2 * i + 1 < length fields.now }
-    ensures { result ≡ ltb (field_in fields.now i) counts.domains }
-{
-    counts.has(field_as::<DomainNo>(fields, i))
-}
-
-pub fn names_term(fields: &[u8], i: usize, counts: Counts) -> bool
-    requires { 2 * i + 1 < length fields.now }
-    ensures { result ≡ ltb (field_in fields.now i) counts.terms }
-{
-    counts.has(field_as::<TermNo>(fields, i))
+    counts.has(field_as::<N>(fields, i))
 }
 
 // Field i is below the bound.

@@ -5,9 +5,9 @@ ghost use Rattle.read_records.specs.Heads.{field_in};
 ghost use Rattle.check_ranges.specs.Ranges.{in_class, ranges_from, groups_from, classes_past};
 ghost use Rattle.check_ranges.specs.Numbers.{Held, range_fits};
 
-use check_fields::{below, names_domain, names_term, names_type};
+use check_fields::{below, names};
 use image::OPERATION_COUNT;
-use read_records::numbers::Counts;
+use read_records::numbers::{Counts, DomainNo, TermNo, TypeNo};
 use read_records::table::{
     CLASS_DOMAIN, CLASS_FREE, CLASS_OPERATION, CLASS_TERM, CLASS_TRUTH, CLASS_TYPE, DOMAIN, MASK,
     NO_FIELDS, TWO_TYPES, TYPE_AND_DOMAIN, TYPE_DOMAIN_AND_TYPE, field_classes, first_count,
@@ -34,12 +34,12 @@ fn in_class(class: u32, fields: &[u8], i: usize, counts: Counts) -> bool
     ensures { result ≡ in_class counts class (field_in fields.now i) }
 {
     match class {
-        CLASS_TYPE => names_type(fields, i, counts),
-        CLASS_DOMAIN => names_domain(fields, i, counts),
+        CLASS_TYPE => names::<TypeNo>(fields, i, counts),
+        CLASS_DOMAIN => names::<DomainNo>(fields, i, counts),
         CLASS_OPERATION => below(fields, i, OPERATIONS),
         CLASS_TRUTH => below(fields, i, TRUTHS),
         CLASS_FREE => true,
-        CLASS_TERM => names_term(fields, i, counts),
+        CLASS_TERM => names::<TermNo>(fields, i, counts),
         _ => names_entry(fields, i, counts),
     }
 }
@@ -99,7 +99,7 @@ pub fn children_in_range(fields: &[u8], from: usize, counts: Counts) -> bool
     ensures { result ≡ groups_from (length fields.now / 2 - from) 1 5 fields.now counts from }
 {
     for i in from..fields.len() / 2 {
-        if !names_term(fields, i, counts) {
+        if !names::<TermNo>(fields, i, counts) {
             return false;
         }
     }
@@ -156,13 +156,14 @@ pub fn in_range(fields: &[u8], code: u32, counts: Counts) -> bool
 {
     match code {
         MASK | NO_FIELDS => true,
-        TYPE_AND_DOMAIN => names_type(fields, 0, counts) & names_domain(fields, 1, counts),
+        TYPE_AND_DOMAIN => names::<TypeNo>(fields, 0, counts)
+            & names::<DomainNo>(fields, 1, counts),
         TYPE_DOMAIN_AND_TYPE => {
-            names_type(fields, 0, counts)
-                & (names_domain(fields, 1, counts) & names_type(fields, 2, counts))
+            names::<TypeNo>(fields, 0, counts)
+                & (names::<DomainNo>(fields, 1, counts) & names::<TypeNo>(fields, 2, counts))
         }
-        TWO_TYPES => names_type(fields, 0, counts) & names_type(fields, 1, counts),
-        DOMAIN => names_domain(fields, 0, counts),
+        TWO_TYPES => names::<TypeNo>(fields, 0, counts) & names::<TypeNo>(fields, 1, counts),
+        DOMAIN => names::<DomainNo>(fields, 0, counts),
         _ => all_in_range(fields, code, counts),
     }
 }

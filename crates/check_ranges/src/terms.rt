@@ -14,11 +14,11 @@ ghost use Rattle.check_ranges.specs.Terms.{ChildrenLower, TermFields, marks_behi
 
 use crate::faults::{has_capacity, right_length};
 use crate::ranges::{OPERATIONS, all_in_range, children_in_range};
-use check_fields::{below, names_domain, names_term, names_type};
+use check_fields::{below, names};
 use check_uses::children::{enter_children, enter_leaf, enter_one, enter_three, enter_two};
 use image::Refusal;
 use read_records::fields::field_as;
-use read_records::numbers::Counts;
+use read_records::numbers::{Counts, DomainNo, TermNo, TypeNo};
 use read_records::table::{
     TYPE, TYPE_AND_CHILD, TYPE_AND_CHILDREN, TYPE_AND_FREE, TYPE_AND_THREE_CHILDREN,
     TYPE_AND_TWO_CHILDREN, TYPE_AND_TWO_FREE, TYPE_DOMAIN_AND_CHILD,
@@ -30,7 +30,7 @@ fn take_leaf(fields: &[u8], counts: Counts, marks: &mut [u8]) -> bool
     requires { (2 ≤ length fields.now) × Few counts × (counts.terms < length marks.old) }
     ensures { (result ≡ ltb (field_in fields.now 0) counts.types) × (marks.new ≡ choose result (entered [] counts.terms marks.old) marks.old) }
 {
-    let ok = names_type(fields, 0, counts);
+    let ok = names::<TypeNo>(fields, 0, counts);
     if ok {
         enter_leaf(marks, counts.next());
     }
@@ -42,7 +42,7 @@ fn take_one(fields: &[u8], counts: Counts, marks: &mut [u8]) -> bool
     requires { (4 ≤ length fields.now) × Few counts × (counts.terms < length marks.old) }
     ensures { (result ≡ (ltb (field_in fields.now 0) counts.types && ltb (field_in fields.now 1) counts.terms)) × (marks.new ≡ choose result (entered (field_in fields.now 1 ∷ []) counts.terms marks.old) marks.old) }
 {
-    let ok = names_type(fields, 0, counts) & names_term(fields, 1, counts);
+    let ok = names::<TypeNo>(fields, 0, counts) & names::<TermNo>(fields, 1, counts);
     if ok {
         enter_one(marks, counts.next(), field_as(fields, 1));
     }
@@ -53,8 +53,8 @@ fn take_two(fields: &[u8], counts: Counts, marks: &mut [u8]) -> bool
     requires { (6 ≤ length fields.now) × Few counts × (counts.terms < length marks.old) }
     ensures { (result ≡ (ltb (field_in fields.now 0) counts.types && (ltb (field_in fields.now 1) counts.terms && ltb (field_in fields.now 2) counts.terms))) × (marks.new ≡ choose result (entered (field_in fields.now 1 ∷ field_in fields.now 2 ∷ []) counts.terms marks.old) marks.old) }
 {
-    let ok = names_type(fields, 0, counts)
-        & (names_term(fields, 1, counts) & names_term(fields, 2, counts));
+    let ok = names::<TypeNo>(fields, 0, counts)
+        & (names::<TermNo>(fields, 1, counts) & names::<TermNo>(fields, 2, counts));
     if ok {
         enter_two(
             marks,
@@ -70,9 +70,9 @@ fn take_three(fields: &[u8], counts: Counts, marks: &mut [u8]) -> bool
     requires { (8 ≤ length fields.now) × Few counts × (counts.terms < length marks.old) }
     ensures { (result ≡ (ltb (field_in fields.now 0) counts.types && (ltb (field_in fields.now 1) counts.terms && (ltb (field_in fields.now 2) counts.terms && ltb (field_in fields.now 3) counts.terms)))) × (marks.new ≡ choose result (entered (field_in fields.now 1 ∷ field_in fields.now 2 ∷ field_in fields.now 3 ∷ []) counts.terms marks.old) marks.old) }
 {
-    let ok = names_type(fields, 0, counts)
-        & (names_term(fields, 1, counts)
-            & (names_term(fields, 2, counts) & names_term(fields, 3, counts)));
+    let ok = names::<TypeNo>(fields, 0, counts)
+        & (names::<TermNo>(fields, 1, counts)
+            & (names::<TermNo>(fields, 2, counts) & names::<TermNo>(fields, 3, counts)));
     if ok {
         enter_three(
             marks,
@@ -90,9 +90,9 @@ fn take_operation(fields: &[u8], counts: Counts, marks: &mut [u8]) -> bool
     requires { (8 ≤ length fields.now) × Few counts × (counts.terms < length marks.old) }
     ensures { (result ≡ (ltb (field_in fields.now 0) counts.types && (ltb (field_in fields.now 1) operation_count && (ltb (field_in fields.now 2) counts.terms && ltb (field_in fields.now 3) counts.terms)))) × (marks.new ≡ choose result (entered (field_in fields.now 2 ∷ field_in fields.now 3 ∷ []) counts.terms marks.old) marks.old) }
 {
-    let ok = names_type(fields, 0, counts)
+    let ok = names::<TypeNo>(fields, 0, counts)
         & (below(fields, 1, OPERATIONS)
-            & (names_term(fields, 2, counts) & names_term(fields, 3, counts)));
+            & (names::<TermNo>(fields, 2, counts) & names::<TermNo>(fields, 3, counts)));
     if ok {
         enter_two(
             marks,
@@ -109,8 +109,8 @@ fn take_lowered(fields: &[u8], counts: Counts, marks: &mut [u8]) -> bool
     requires { (6 ≤ length fields.now) × Few counts × (counts.terms < length marks.old) }
     ensures { (result ≡ (ltb (field_in fields.now 0) counts.types && (ltb (field_in fields.now 1) counts.domains && ltb (field_in fields.now 2) counts.terms))) × (marks.new ≡ choose result (entered (field_in fields.now 2 ∷ []) counts.terms marks.old) marks.old) }
 {
-    let ok = names_type(fields, 0, counts)
-        & (names_domain(fields, 1, counts) & names_term(fields, 2, counts));
+    let ok = names::<TypeNo>(fields, 0, counts)
+        & (names::<DomainNo>(fields, 1, counts) & names::<TermNo>(fields, 2, counts));
     if ok {
         enter_one(marks, counts.next(), field_as(fields, 2));
     }
@@ -122,7 +122,7 @@ fn take_group(fields: &[u8], code: u32, counts: Counts, marks: &mut [u8]) -> boo
     requires { (2 ≤ length fields.now) × Fitting code fields.now × ((ltb (field_in fields.now 0) counts.types && groups_from (length fields.now / 2 - 1) 1 5 fields.now counts 1) ≡ true → Lower counts.terms (children_of code fields.now)) × Few counts × (counts.terms < length marks.old) }
     ensures { (result ≡ (ltb (field_in fields.now 0) counts.types && groups_from (length fields.now / 2 - 1) 1 5 fields.now counts 1)) × (marks.new ≡ choose result (entered (children_of code fields.now) counts.terms marks.old) marks.old) }
 {
-    let ok = names_type(fields, 0, counts) & children_in_range(fields, 1, counts);
+    let ok = names::<TypeNo>(fields, 0, counts) & children_in_range(fields, 1, counts);
     if ok {
         enter_children(fields, code, counts.next(), marks);
     }

@@ -6,11 +6,9 @@ use console::IMAGE_CAPACITY;
 
 fn main(rt: HostRuntime) {
     let mut image = [0u8; IMAGE_CAPACITY];
-    let input = console::read_sole_image(&rt, b"fixed < IMAGE > FORM", &mut image);
-    if !input.whole {
+    let Ok(n) = console::read_sole_image(&rt, b"fixed < IMAGE > FORM", &mut image) else {
         return;
-    }
-    let n = input.length;
+    };
     let mut out = [0u8; IMAGE_CAPACITY];
     let w = write_fixed::write_fixed(&image[..n], &mut out);
     console::write_image(

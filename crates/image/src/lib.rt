@@ -2,6 +2,9 @@
 // that the validator, the engine and the writers share.
 #![tactic(auto)]
 
+ghost use Rattle.std.specs.Prelude.{◌≡◌};
+ghost use Rattle.image.specs.Refusals.{refusal_number};
+
 use base_bytes::{BESIDE_COUNT, WORD_COUNT};
 use calculus::{CELL_LIMIT, LEAF_LIMIT};
 
@@ -40,7 +43,7 @@ pub const REPORT_LENGTH: usize = 10 + 8 * LEAF_LIMIT + 2 * CELL_LIMIT * (6 + 8 *
 // Why an image is refused (document 01, "Turned back at the gate").
 #[derive(Clone, Copy)]
 pub enum Refusal {
-    ImageTooLong,
+    ImageTooLong = 1,
     BrokenRecord,
     UnknownKind,
     WrongLength,
@@ -58,6 +61,15 @@ pub enum Refusal {
     RootNotPlain,
     ShortWorkArea,
     ShortReport,
+}
+
+// The number of a refusal (document 01, "Turned back at the gate").
+impl From<Refusal> for u16 {
+    ghost from_gives = { λ why n. n ≡ refusal_number why };
+
+    fn from(why: Refusal) -> u16 {
+        why as u16
+    }
 }
 
 // A refusal, and its place in the image: an offset, or 0 where the refusal is of no place in it.

@@ -5,7 +5,7 @@ use mathlib.Core.Path.{◌≡◌, sym, ap, ap₂, ◌∙◌}
 use mathlib.Core.List.{List}
 use lib.ListN.{take}
 use Rattle.image.specs.declared.Refusal.{Refusal}
-use Rattle.verdict.specs.Answers.{Verdict, refused_at}
+use Rattle.verdict.specs.Answers.{refused_at}
 use Rattle.call_spec.specs.declared.Answer.{Answer}
 use Rattle.listing_lines.specs.Lines.{refusal_line}
 use Rattle.listing.specs.Listing.{run_listing, listing_by, listing}

@@ -21,7 +21,7 @@ fn put_refusal(out: &mut [u8], why: Refusal, place: usize) -> usize
     ensures { PutsWithin refusal_bound out.old (refusal_line why place) out.new result }
 {
     let o = put(out, 0, b"refused ");
-    let o = put_decimal(out, o, image_refusals::refusal_number(why) as u64);
+    let o = put_decimal(out, o, u16::from(why) as u64);
     let o = put(out, o, b" ");
     let o = put_decimal(out, o, place as u64);
     put(out, o, b"\n")

@@ -4,10 +4,14 @@ use native.Mathlib.Omega.{arith}
 use mathlib.Core.Path.{◌≡◌, refl, sym, ap, ◌∙◌}
 use mathlib.Core.List.{List, [], ◌∷◌, ◌++◌}
 use mathlib.Core.Option.{none, some}
+use mathlib.Core.Bool.{Bool}
+use denote.Enum.Bare.{sameb}
+use Rattle.calculus.specs.contracts.Outcome.{the_type}
+use Rattle.calculus.proofs.EveryOutcome.{at_outcome}
 use lib.ListN.{take, drop}
 use lib.Seq.{drop-drop}
 use lib.Dec.{eqb}
-use borrow.Author.Tests.{eq-eqb, ne_eqb}
+use borrow.Author.Tests.{ne_eqb}
 use Rattle.calculus.specs.declared.Outcome.{Outcome}
 use Rattle.calculus.specs.declared.Leaf.{Leaf}
 use Rattle.calculus.specs.Combinators.{choose}
@@ -68,12 +72,11 @@ module _ (k : ℕ) (fields : List ℕ) where
   no_cell a b = simp (ne_eqb k 68 a, ne_eqb k 69 b)
 
 -- The lines of how a run ended.
-module _ (o : Outcome) (n : ℕ) (e : n ≡ outcome_number o) (ls : List Leaf) where
-  pub result_said : n ≡ 0 → value_line ls ≡ result_line o ls
-  result_said h = sym (ap (λ b. choose b (value_line ls) []) (ap (λ m. eqb m 0) (sym e) ∙ eq-eqb n 0 h))
+done_tested : (o : Outcome) → sameb the_type o Outcome.Done ≡ eqb (outcome_number o) 0
+done_tested = at_outcome (λ o. sameb the_type o Outcome.Done) (λ o. eqb (outcome_number o) 0) refl
 
-  pub no_result : ¬ (n ≡ 0) → [] ≡ result_line o ls
-  no_result h = sym (ap (λ b. choose b (value_line ls) []) (ap (λ m. eqb m 0) (sym e) ∙ ne_eqb n 0 h))
+pub result_said : (o : Outcome) (ls : List Leaf) (b : Bool) → b ≡ sameb the_type o Outcome.Done → choose b (value_line ls) [] ≡ result_line o ls
+result_said o ls b e = ap (λ d. choose d (value_line ls) []) (e ∙ done_tested o)
 
 module _ {x : Ending} (steps : ℕ) (ls : List Leaf) where
   pub no_ending : x ≡ Ending.NoOutcome → [] ≡ ending_lines x steps ls

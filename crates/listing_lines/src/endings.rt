@@ -6,10 +6,8 @@ ghost use Rattle.listing_lines.specs.Puts.{Puts};
 
 use crate::leaves::put_leaves;
 use crate::text::{put, put_decimal};
-use calculus::{Outcome, outcomes};
+use calculus::Outcome;
 use report::Ending;
-
-const DONE: u16 = outcomes::DONE as u16;
 
 fn put_word(out: &mut [u8], at: usize, o: Outcome) -> usize
     ensures { Puts out.old at (ascii (outcome_word o)) out.new result }
@@ -52,7 +50,7 @@ fn put_value(out: &mut [u8], at: usize, report: &[u8]) -> usize
 fn put_result(out: &mut [u8], at: usize, outcome: Outcome, report: &[u8]) -> usize
     ensures { Puts out.old at (result_line outcome (read_report report.now).result) out.new result }
 {
-    if report::outcome_number(outcome) == DONE {
+    if outcome == Outcome::Done {
         return put_value(out, at, report);
     }
     at

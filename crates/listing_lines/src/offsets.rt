@@ -7,7 +7,7 @@ ghost use Rattle.listing_lines.specs.Offsets.{size_at};
 fn join(lo: u8, hi: u8) -> u16
     ensures { result ≡ lo + 256 * hi }
 {
-    lo as u16 + 256 * (hi as u16)
+    u16::from_le_bytes([lo, hi])
 }
 
 // The 16-bit number at an offset.
@@ -37,10 +37,7 @@ pub fn size_at(s: &[u8], at: usize) -> usize
     ensures { result ≡ size_at s.now at }
 {
     let size = word(s, at) as usize;
-    if size < 4 {
-        return 0;
-    }
-    if s.len() - at < size {
+    if size < 4 || s.len() - at < size {
         return 0;
     }
     size
@@ -50,18 +47,12 @@ pub fn size_at(s: &[u8], at: usize) -> usize
 pub fn front(s: &[u8], n: usize) -> &[u8]
     ensures { result.now ≡ take n s.now }
 {
-    if n <= s.len() {
-        return &s[0..n];
-    }
-    s
+    &s[..n.min(s.len())]
 }
 
 // The bytes past the first n.
 pub fn behind(s: &[u8], n: usize) -> &[u8]
     ensures { result.now ≡ drop n s.now }
 {
-    if n <= s.len() {
-        return &s[n..];
-    }
-    &s[0..0]
+    &s[n.min(s.len())..]
 }

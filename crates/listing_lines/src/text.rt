@@ -19,19 +19,19 @@ pub fn put(out: &mut [u8], at: usize, text: &[u8]) -> usize
     ensures { Puts out.old at text.now out.new result }
 {
     let mut o = at;
-    let mut i: usize = 0;
-    while i < text.len() {
-        o = put_byte(out, o, text[i]);
-        i += 1;
+    for b in text {
+        o = put_byte(out, o, *b);
     }
     o
 }
 
 // The digits above the last one first.
+// Kept: `Puts` says which bytes stand in the lent buffer also where the number does not fit into it, and nothing of the library
+// promises that of formatted text; with no heap there is no String to write it to first.
 pub fn put_decimal(out: &mut [u8], at: usize, n: u64) -> usize
     ensures { Puts out.old at (decimal n) out.new result }
 {
-    let last = 48 + (n % 10) as u8;
+    let last = b'0' + (n % 10) as u8;
     if n < 10 {
         return put_byte(out, at, last);
     }

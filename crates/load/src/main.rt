@@ -2,12 +2,11 @@
 // `refused N PLACE` on standard error, and nothing is written. Arguments are decimal numbers of 32 bits.
 #![tactic(auto)]
 
-use numerals::Numeral;
 use write_load::OUTPUT_LENGTH;
 
-const MOST: u32 = 4294967295;
+const MOST: u32 = u32::MAX;
 
-fn argument(rt: &HostRuntime, i: usize) -> Numeral {
+fn argument(rt: &HostRuntime, i: usize) -> Option<u32> {
     console::argument(rt, i, 3, MOST)
 }
 
@@ -19,10 +18,10 @@ fn tell_usage(rt: &HostRuntime) {
 }
 
 fn main(rt: HostRuntime) {
-    let Numeral::Number(seed) = argument(&rt, 1) else {
+    let Some(seed) = argument(&rt, 1) else {
         return tell_usage(&rt);
     };
-    let Numeral::Number(depth) = argument(&rt, 2) else {
+    let Some(depth) = argument(&rt, 2) else {
         return tell_usage(&rt);
     };
     let mut out = [0u8; OUTPUT_LENGTH];

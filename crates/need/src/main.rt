@@ -32,12 +32,8 @@ fn told(rt: &impl Print, f: Forecast) -> io::Result<()> {
 
 fn main(rt: HostRuntime) {
     let mut image = [0u8; IMAGE_CAPACITY];
-    let input = console::read_sole_image(&rt, b"need < IMAGE", &mut image);
-    if !input.whole {
+    let Ok(n) = console::read_sole_image(&rt, b"need < IMAGE", &mut image) else {
         return;
-    }
-    let n = input.length;
-    if let Err(error) = told(&rt, needs::forecast_image(&image[..n])) {
-        console::tell_failure(&rt, b"standard output", error);
-    }
+    };
+    console::tell_unwritten(&rt, told(&rt, needs::forecast_image(&image[..n])));
 }

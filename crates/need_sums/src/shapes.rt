@@ -93,6 +93,7 @@ fn three(second: Role, third: Role, rest: Role) -> Shape
 
 // Constants, variables and the kinds with a body that does not run take nothing. What is left is an operator without operands
 // that takes a step and nothing besides.
+// Kept: a kind is the number that stands in a record's head (`term_row`, which the definition of an image reads).
 pub fn shape_of(kind: u16) -> Shape
     ensures { (k : TermKind) → kind ≡ (term_row k).number → result ≡ shape_of k }
 {

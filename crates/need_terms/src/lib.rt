@@ -21,6 +21,8 @@ use read_terms::types::domain_of;
 // The field of a lower's domain: it stands behind the type.
 const LOWERED: usize = 1;
 
+// Kept: a kind is the number that stands in a record's head (`term_row`, which the definition of an image reads).
+
 // Child j.
 pub fn child_in(kind: u16, fields: &[u8], j: usize) -> TermNo
     requires { (P : Part kind fields.now) × (j < length (children_in fields.now P.kind_of_term)) }

@@ -1,6 +1,5 @@
 -- Decimal numbers in the arguments of programs.
-use Rattle.std.specs.Prelude.{ℕ, ◌+◌, ◌-◌, ◌*◌, ◌≤◌, Bool, ◌&&◌, cond, List, [], ◌∷◌, leb}
-use Rattle.numerals.specs.declared.Numeral.{Numeral}
+use Rattle.std.specs.Prelude.{ℕ, ◌+◌, ◌-◌, ◌*◌, ◌≤◌, Bool, ◌&&◌, cond, List, [], ◌∷◌, leb, Option, Some, None}
 
 -- A digit in ASCII, and what it stands for.
 abbrev pub is_digit : ℕ → Bool
@@ -10,20 +9,20 @@ abbrev pub with_digit : ℕ → ℕ → ℕ
 with_digit n d = 10 * n + (d - 48)
 
 -- What is said with one byte more: no number, if the byte is no digit or the number is over the limit.
-abbrev pub after : ℕ → Numeral → ℕ → Numeral
-after most (Numeral.Number n) d = cond (is_digit d && leb (with_digit n d) most) (Numeral.Number (with_digit n d)) Numeral.NoNumber
-after most Numeral.NoNumber d = Numeral.NoNumber
+abbrev pub after : ℕ → Option ℕ → ℕ → Option ℕ
+after most (Some n) d = cond (is_digit d && leb (with_digit n d) most) (Some (with_digit n d)) None
+after most None d = None
 
-unfoldable pub after_all : ℕ → Numeral → List ℕ → Numeral
+unfoldable pub after_all : ℕ → Option ℕ → List ℕ → Option ℕ
 after_all most s [] = s
 after_all most s (d ∷ ds) = after_all most (after most s d) ds
 
 -- The number that bytes say, if they are decimal digits, at least one, and the number is within the limit.
-abbrev pub numeral : ℕ → List ℕ → Numeral
-numeral most [] = Numeral.NoNumber
-numeral most (d ∷ ds) = after_all most (Numeral.Number 0) (d ∷ ds)
+abbrev pub numeral : ℕ → List ℕ → Option ℕ
+numeral most [] = None
+numeral most (d ∷ ds) = after_all most (Some 0) (d ∷ ds)
 
 -- A number that is said is within the limit.
-abbrev pub AtMost : ℕ → Numeral → Type 0
-AtMost most (Numeral.Number n) = n ≤ most
-AtMost most Numeral.NoNumber = Unit {0}
+abbrev pub AtMost : ℕ → Option ℕ → Type 0
+AtMost most (Some n) = n ≤ most
+AtMost most None = Unit {0}

@@ -33,6 +33,6 @@ pub fn put_head(report: &mut [u8], outcome: Outcome, steps: u32)
     ensures { report.new ≡ over 0 (head_bytes (outcome_number outcome) steps) report.old }
 {
     put_header(report, 0, 10, REPORT);
-    put16(report, 4, crate::outcome_number(outcome));
+    put16(report, 4, u16::from(outcome));
     put32(report, 6, steps);
 }

@@ -1,6 +1,5 @@
 // The leaves of a result or of a cell.
 ghost use Rattle.std.specs.Prelude.{◌≡◌, ◌+◌, ◌*◌, ◌≤◌, length};
-ghost use Rattle.calculus.specs.Combinators.{choose};
 ghost use Rattle.base_bytes.specs.Bytes.{over};
 ghost use Rattle.report.specs.Written.{leaf_bytes, leaves_bytes, leaves_in};
 
@@ -15,13 +14,6 @@ pub const TRUTH: u16 = 66;
 
 pub const NUMBER: u16 = 67;
 
-// A truth's number.
-fn bit(b: bool) -> u16
-    ensures { result ≡ choose b 1 0 }
-{
-    if b { 1 } else { 0 }
-}
-
 // A leaf's record; answers the offset past it.
 fn put_leaf(report: &mut [u8], at: usize, leaf: Leaf) -> usize
     requires { at + 8 ≤ length report.old }
@@ -34,7 +26,7 @@ fn put_leaf(report: &mut [u8], at: usize, leaf: Leaf) -> usize
         }
         Leaf::Truth(b) => {
             put_header(report, at, 6, TRUTH);
-            put16(report, at + 4, bit(b));
+            put16(report, at + 4, u16::from(b));
             at + 6
         }
         Leaf::Number(n) => {
@@ -51,12 +43,8 @@ pub fn put_leaves(report: &mut [u8], at: usize, slots: [Slot; LEAF_LIMIT], count
     ensures { (result ≡ at + length (leaves_bytes (leaves_in count slots))) × (report.new ≡ over at (leaves_bytes (leaves_in count slots)) report.old) }
 {
     let mut o = at;
-    let mut i: usize = 0;
-    while i < count {
-        let s = slots[i];
-        let leaf = s.leaf;
-        o = put_leaf(report, o, leaf);
-        i += 1;
+    for slot in &slots[..count] {
+        o = put_leaf(report, o, slot.leaf);
     }
     o
 }

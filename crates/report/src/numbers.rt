@@ -7,18 +7,14 @@ pub fn put16(out: &mut [u8], at: usize, v: u16)
     requires { at + 2 ≤ length out.old }
     ensures { out.new ≡ over at (bytes16 v) out.old }
 {
-    out[at] = (v % 256) as u8;
-    out[at + 1] = (v / 256 % 256) as u8;
+    out[at..at + 2].copy_from_slice(&v.to_le_bytes());
 }
 
 pub fn put32(out: &mut [u8], at: usize, v: u32)
     requires { at + 4 ≤ length out.old }
     ensures { out.new ≡ over at (bytes32 v) out.old }
 {
-    out[at] = (v % 256) as u8;
-    out[at + 1] = (v / 256 % 256) as u8;
-    out[at + 2] = (v / 65536 % 256) as u8;
-    out[at + 3] = (v / 16777216 % 256) as u8;
+    out[at..at + 4].copy_from_slice(&v.to_le_bytes());
 }
 
 // The length and the kind that a record begins with.

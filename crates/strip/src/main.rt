@@ -4,7 +4,6 @@
 #![tactic(auto)]
 
 use console::IMAGE_CAPACITY;
-use numerals::Numeral;
 
 // A mask has 16 bits.
 const MOST_MASK: u32 = 65535;
@@ -12,11 +11,9 @@ const MOST_MASK: u32 = 65535;
 // The image on standard input without its watches below these high domains.
 fn strip_image(rt: &HostRuntime, mask: u16) {
     let mut image = [0u8; IMAGE_CAPACITY];
-    let input = console::read_image(rt, &mut image);
-    if !input.whole {
+    let Ok(n) = console::read_image(rt, &mut image) else {
         return;
-    }
-    let n = input.length;
+    };
     let mut out = [0u8; IMAGE_CAPACITY];
     let s = write_stripped::write_stripped(&image[..n], mask, &mut out);
     console::write_image(
@@ -29,7 +26,7 @@ fn strip_image(rt: &HostRuntime, mask: u16) {
 }
 
 fn main(rt: HostRuntime) {
-    let Numeral::Number(mask) = console::argument(&rt, 1, 2, MOST_MASK) else {
+    let Some(mask) = console::argument(&rt, 1, 2, MOST_MASK) else {
         console::tell_usage(
             &rt,
             b"strip MASK < IMAGE > STRIPPED, MASK from 0 to 65535 with a bit for each high domain",

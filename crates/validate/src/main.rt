@@ -6,11 +6,9 @@ use image::{REPORT_LENGTH, WORK_LENGTH};
 
 fn main(rt: HostRuntime) {
     let mut image = [0u8; IMAGE_CAPACITY];
-    let input = console::read_sole_image(&rt, b"validate < IMAGE", &mut image);
-    if !input.whole {
+    let Ok(n) = console::read_sole_image(&rt, b"validate < IMAGE", &mut image) else {
         return;
-    }
-    let n = input.length;
+    };
     let v = validator::validate(&image[..n], WORK_LENGTH, REPORT_LENGTH);
     let mut out = [0u8; listing::REFUSAL_LENGTH];
     let end = listing::put_verdict(&mut out, v);

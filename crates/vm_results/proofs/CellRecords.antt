@@ -1,5 +1,5 @@
 -- The cells' records: each, and end to end.
-use Prim.Native.Nat.{ℕ, zero, suc, ◌+◌, ◌%◌, ◌≤◌, ◌<◌}
+use Prim.Native.Nat.{ℕ, zero, suc, ◌+◌, ◌%◌, ◌≤◌}
 use native.Mathlib.Omega.{arith}
 use native.Mathlib.Nat.{add-zero}
 use native.Mathlib.Numerals.{add-one}
@@ -9,7 +9,7 @@ use mathlib.Core.List.{List, [], ◌∷◌, ◌++◌}
 use mathlib.Core.Option.{none, some}
 use lib.ListN.{length, length-append}
 use lib.Dec.{leb}
-use borrow.Author.Tests.{le-leb, lt-leb}
+use borrow.Author.Tests.{le-leb}
 use Rattle.calculus.specs.Combinators.{choose}
 use Rattle.calculus.specs.Report.{CellReport}
 use Rattle.image.specs.Limits.{domain_limit}
@@ -39,11 +39,6 @@ module _ (M : Memory) (i w note d : ℕ) (a : w ≡ cell_at M i) (b : note ≡ c
 
   abbrev held_if : Bool → CellReport
   held_if q = record { dom = cell_note (cell_at M i) % domain_limit; held = choose q (some (plain_leaves_in M (cell_at M i))) none }
-
-  -- Cell i, by its note.
-  pub other_cell : note < domain_limit → record { dom = d; held = none } ≡ cell_in_of M i
-  other_cell h =
-      ap (λ n. record { dom = n; held = none }) is_domain ∙ ap held_if (sym (ap (leb domain_limit) (sym is_note) ∙ lt-leb domain_limit note h))
 
   pub plain_cell : (g : Gathered) → domain_limit ≤ note → g ≡ gathered (plain_leaves_in M w)
       → record { dom = d; held = some (leaves_in g.count g.slots) } ≡ cell_in_of M i

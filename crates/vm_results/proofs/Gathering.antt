@@ -2,7 +2,7 @@
 use Prim.Native.Nat.{ℕ, zero, suc, ◌+◌, ◌-◌, ◌≤◌, ◌<◌}
 use native.Mathlib.Omega.{arith}
 use mathlib.Core.Path.{◌≡◌, refl, sym, ap, ap₂, ◌∙◌}
-use mathlib.Core.Bool.{Bool, true, false, not}
+use mathlib.Core.Bool.{Bool, true, false}
 use mathlib.Core.List.{List, [], ◌∷◌, ◌++◌, map, map-append, append-nil}
 use lib.ListN.{length, set, take, replicate, length-append, length-map, length-take}
 use lib.Seq.{take_all, take-append-le, append_snoc}
@@ -42,13 +42,6 @@ pub leaf_left_out : (g : Gathered) (l : Leaf) → 8 ≤ g.count → with_leaf g 
 leaf_left_out g l h = rw (le-ltb g.count 8 h)
 
 module _ (w t : ℕ) (e : t ≡ tag_of w) where
-  -- The leaf of a word, by its tag t.
-  pub leaf_unit : t ≡ 0 → leaf_of w ≡ Leaf.Unit
-  leaf_unit h = rw (sym e ∙ h)
-
-  pub leaf_truth : t ≡ 1 → leaf_of w ≡ Leaf.Truth (not (eqb (body_of w) 0))
-  leaf_truth h = rw (sym e ∙ h)
-
   pub leaf_number : (t ≡ 0 → ⊥) → (t ≡ 1 → ⊥) → leaf_of w ≡ Leaf.Number (body_of w)
   leaf_number h k = rw (sym e, ne_eqb t 0 h, ne_eqb t 1 k)
 

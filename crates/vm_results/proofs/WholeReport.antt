@@ -2,17 +2,15 @@
 use Rattle.std.specs.Prelude.{Ok}
 use Prim.Native.Nat.{ℕ, ◌+◌, ◌-◌, ◌*◌, ◌≤◌}
 use native.Mathlib.Omega.{arith}
-use mathlib.Core.Path.{◌≡◌, refl, sym, ap, ◌∙◌}
+use mathlib.Core.Path.{◌≡◌, refl, ap, ◌∙◌}
 use mathlib.Core.Bool.{Bool, true, false}
 use mathlib.Core.List.{List, [], ◌++◌}
 use lib.ListN.{length, length-append}
-use borrow.Author.Tests.{eq-eqb, ne_eqb}
 use Rattle.calculus.specs.declared.Outcome.{Outcome}
 use Rattle.calculus.specs.declared.Leaf.{Leaf}
 use Rattle.calculus.specs.Combinators.{choose}
 use Rattle.calculus.specs.Report.{outcome_number, CellReport}
 use Rattle.image.specs.Limits.{report_length}
-use Rattle.verdict.specs.Answers.{Verdict}
 use Rattle.base_bytes.specs.Bytes.{bytes_of, over}
 use Rattle.base_bytes.proofs.Over.{onward}
 use Rattle.report.specs.declared.Ending.{Ending}
@@ -26,13 +24,6 @@ use Rattle.vm_results.specs.declared.Gathered.{Gathered}
 use Rattle.vm_results.specs.Gathered.{gathered}
 use Rattle.vm_results.specs.Ended.{halted_with, is_done, plain_leaves_in, result_in, cells_in, report_in, answer_in}
 use Rattle.vm_results.proofs.Gathering.{gathered_leaves, plain_few}
-
--- The result's leaves, by the outcome's number n.
-pub done_leaves : (M : Memory) (n w : ℕ) → n ≡ 0 → plain_leaves_in M w ≡ choose (is_done n) (plain_leaves_in M w) []
-done_leaves M n w h = rw (eq-eqb n 0 h)
-
-pub other_leaves : (M : Memory) (n w : ℕ) → (n ≡ 0 → ⊥) → [] ≡ choose (is_done n) (plain_leaves_in M w) []
-other_leaves M n w h = ap (λ b. choose b (plain_leaves_in M w) []) (sym (ne_eqb n 0 h))
 
 few_of : (M : Memory) (w : ℕ) (b : Bool) → length (choose b (plain_leaves_in M w) []) ≤ 8
 few_of M w true = plain_few M w

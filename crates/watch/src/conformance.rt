@@ -3,6 +3,7 @@ ghost use Rattle.std.specs.Prelude.{◌≡◌, ◌≤◌, length};
 ghost use Rattle.listing.specs.Conformance.{conformance_frame, conformance_listing, conformance_listing_length, Listed};
 
 use image::{REPORT_LENGTH, WORK_LENGTH};
+use std::io;
 
 // No listing of the sheet's calls is longer: `conformance_listing_length`.
 const LISTING_LENGTH: usize = 260290;
@@ -17,10 +18,8 @@ fn frame_bytes() -> [u8; FRAME_LENGTH]
     ensures { result ≡ conformance_frame }
 {
     let mut frame = [0u8; FRAME_LENGTH];
-    let mut i: usize = 0;
-    while i < FRAME_LENGTH {
+    for i in 0..FRAME_LENGTH {
         frame[i] = i as u8;
-        i += 1;
     }
     frame
 }
@@ -38,9 +37,9 @@ fn list_call(image: &[u8], budget: u32, out: &mut [u8]) -> usize
     listing::put_listing(out, a, &log, &report)
 }
 
-// Whether it was written.
-pub fn print_listing(rt: &HostRuntime, image: &[u8], budget: u32) -> bool {
+// The listing on standard output.
+pub fn print_listing(rt: &impl Print, image: &[u8], budget: u32) -> io::Result<()> {
     let mut out = [0u8; LISTING_LENGTH];
     let end = list_call(image, budget, &mut out);
-    console::write_out(rt, &out[..end])
+    rt.write_all(&out[..end])
 }

@@ -11,12 +11,10 @@ const BUDGET: u32 = 100000;
 
 fn list_input(rt: &HostRuntime) {
     let mut image = [0u8; IMAGE_CAPACITY];
-    let input = console::read_image(rt, &mut image);
-    if !input.whole {
+    let Ok(n) = console::read_image(rt, &mut image) else {
         return;
-    }
-    let n = input.length;
-    conformance::print_listing(rt, &image[..n], BUDGET);
+    };
+    console::tell_unwritten(rt, conformance::print_listing(rt, &image[..n], BUDGET));
 }
 
 // The program's name, and then nothing or pairs.
@@ -28,5 +26,5 @@ fn main(rt: HostRuntime) {
     if words % 2 == 0 {
         return stored::tell_usage(&rt);
     }
-    stored::run_pairs(&rt);
+    console::tell_unwritten(&rt, stored::run_pairs(&rt));
 }

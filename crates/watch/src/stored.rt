@@ -4,46 +4,45 @@
 use crate::conformance::print_listing;
 use console::{IMAGE_CAPACITY, WORD_CAPACITY};
 use image::{REPORT_LENGTH, WORK_LENGTH};
-use numerals::Numeral;
 use std::env::{Env, FillError};
 use std::fs::File;
 use std::io;
 use std::io::ErrorKind;
 
-const MOST_BUDGET: u32 = 4294967295;
+const MOST_BUDGET: u32 = u32::MAX;
 
-fn print_verdict(rt: &HostRuntime, image: &[u8]) -> bool {
+fn print_verdict(rt: &impl Print, image: &[u8]) -> io::Result<()> {
     let v = validator::validate(image, WORK_LENGTH, REPORT_LENGTH);
     let mut out = [0u8; listing::REFUSAL_LENGTH];
     let end = listing::put_verdict(&mut out, v);
-    console::write_out(rt, &out[..end])
+    rt.write_all(&out[..end])
 }
 
 // A file's name is text.
 fn open(rt: &HostRuntime, path: &[u8]) -> io::Result<File> {
-    match std::str::from_utf8(path) {
-        Ok(name) => File::open(rt, name),
-        Err(_) => Err(io::Error::new(ErrorKind::InvalidInput, "the name is not UTF-8")),
-    }
+    let Ok(name) = std::str::from_utf8(path) else {
+        return Err(io::Error::new(ErrorKind::InvalidInput, "the name is not UTF-8"));
+    };
+    File::open(rt, name)
 }
 
-// Whether all that was answered was written.
-fn run_file(rt: &HostRuntime, path: &[u8], budget: u32) -> bool {
+// Fails where the output cannot be written; a file that cannot be read is reported.
+fn run_file(rt: &HostRuntime, path: &[u8], budget: u32) -> io::Result<()> {
     let mut file = match open(rt, path) {
         Ok(file) => file,
         Err(error) => {
             console::tell_failure(rt, path, error);
-            return true;
+            return Ok(());
         }
     };
     let mut image = [0u8; IMAGE_CAPACITY];
-    let input = console::read_whole(rt, path, &mut file, &mut image);
+    let read = console::read_whole(rt, path, &mut file, &mut image);
     drop(file);
-    if !input.whole {
-        return true;
-    }
-    let n = input.length;
-    print_verdict(rt, &image[..n]) && print_listing(rt, &image[..n], budget)
+    let Ok(n) = read else {
+        return Ok(());
+    };
+    print_verdict(rt, &image[..n])?;
+    print_listing(rt, &image[..n], budget)
 }
 
 pub fn tell_usage(rt: &HostRuntime) {
@@ -61,38 +60,37 @@ fn argument_error(error: FillError) -> io::Error {
     }
 }
 
-// The image whose budget and whose file these arguments name: whether all that was answered was written. A budget that is too long
-// for its buffer is no number.
-fn run_pair(rt: &HostRuntime, budget_arg: usize, file_arg: usize) -> bool {
+// The image whose budget and whose file these arguments name. Fails where the output cannot be written. A budget that is too long for
+// its buffer is no number.
+fn run_pair(rt: &HostRuntime, budget_arg: usize, file_arg: usize) -> io::Result<()> {
     let mut digits = [0u8; WORD_CAPACITY];
     let mut path = [0u8; WORD_CAPACITY];
     let length = match rt.arg(file_arg, &mut path) {
         Ok(length) => length,
         Err(error) => {
             console::tell_failure(rt, b"arg", argument_error(error));
-            return true;
+            return Ok(());
         }
     };
     let Ok(count) = rt.arg(budget_arg, &mut digits) else {
         tell_usage(rt);
-        return true;
+        return Ok(());
     };
-    let Numeral::Number(budget) = numerals::number_of(&digits[..count], MOST_BUDGET) else {
+    let Some(budget) = numerals::number_of(&digits[..count], MOST_BUDGET) else {
         tell_usage(rt);
-        return true;
+        return Ok(());
     };
-    console::write_out(rt, &digits[..count])
-        && console::write_out(rt, b" ")
-        && console::write_out(rt, &path[..length])
-        && console::write_out(rt, b"\n")
-        && run_file(rt, &path[..length], budget)
+    rt.write_all(&digits[..count])?;
+    rt.write_all(b" ")?;
+    rt.write_all(&path[..length])?;
+    rt.write_all(b"\n")?;
+    run_file(rt, &path[..length], budget)
 }
 
-pub fn run_pairs(rt: &HostRuntime) {
+pub fn run_pairs(rt: &HostRuntime) -> io::Result<()> {
     let pairs = console::word_count(rt) / 2;
     for k in 0..pairs {
-        if !run_pair(rt, 2 * k + 1, 2 * k + 2) {
-            return;
-        }
+        run_pair(rt, 2 * k + 1, 2 * k + 2)?;
     }
+    Ok(())
 }

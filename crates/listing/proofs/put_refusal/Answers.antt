@@ -12,7 +12,7 @@ use Rattle.listing.proofs.put_refusal.Goals as goal
 pub returns : goal.returns
 returns c =
     let a = c.args in
-    let n : refusal_number a.why < 65536 = omega (arith, c.refusal_number.ensures) in
+    let n : refusal_number a.why < 65536 = omega (arith, c.from.ensures) in
     within_limit
-    (then (then (then (then c.put-o.ensures (as_text (ap decimal c.refusal_number.ensures) c.put_decimal-o.ensures)) c.put-o-2.ensures) c.put_decimal-o-2.ensures) c.put.ensures)
+    (then (then (then (then c.put-o.ensures (as_text (ap decimal c.from.ensures) c.put_decimal-o.ensures)) c.put-o-2.ensures) c.put_decimal-o-2.ensures) c.put.ensures)
     (refusal_short a.why a.place n (search rules))

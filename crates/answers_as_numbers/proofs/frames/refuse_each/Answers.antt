@@ -6,5 +6,5 @@ use Rattle.answers_as_numbers.proofs.frames.refuse_each.Goals as goal
 
 pub returns : goal.returns
 returns c =
-    c.answer_each.ensures
-    ∙ ap (replicate (length c.args.numbers.now)) (c.refused_as_number.ensures ∙ ap (λ m. refused_as_number m c.args.place) c.refusal_number.ensures)
+    c.fill.ensures.after (λ y e. e)
+    ∙ ap (replicate (length c.args.numbers.now)) (c.refused_as_number.ensures ∙ ap (λ m. refused_as_number m c.args.place) c.from.ensures)

@@ -8,15 +8,15 @@ use Rattle.check_ranges.proofs.Numbers.{yes_of, no_of}
 use borrow.Author.Rules.{rules}
 use Rattle.check_ranges.proofs.ranges.children_in_range.Goals as goal
 
-pub returns-then-not-names_term : goal.returns-then-not-names_term
-returns-then-not-names_term c =
+pub returns-then-not-names : goal.returns-then-not-names
+returns-then-not-names c =
     let a = c.args in
-    sym (c.loop-i.invariant ∙ child_stop a.fields.now a.counts _ c.loop-i.i (search rules) (no_of _ _ c.names_term.ensures c.if-not-names_term.true))
+    sym (c.loop-i.invariant ∙ child_stop a.fields.now a.counts _ c.loop-i.i (search rules) (no_of _ _ c.names.ensures c.if-not-names.true))
 
 pub loop-i-preserved : goal.loop-i-preserved
 loop-i-preserved c =
     let a = c.args in
-    c.loop-i.invariant ∙ child_next a.fields.now a.counts _ c.loop-i.i (search rules) (yes_of _ _ c.names_term.ensures c.if-not-names_term.false)
+    c.loop-i.invariant ∙ child_next a.fields.now a.counts _ c.loop-i.i (search rules) (yes_of _ _ c.names.ensures c.if-not-names.false)
 
 pub returns : goal.returns
 unfolding groups_from

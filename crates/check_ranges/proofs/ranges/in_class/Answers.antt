@@ -6,10 +6,10 @@ pub returns-in_default : goal.returns-in_default
 returns-in_default c = simp (ne_eqb _ _ c.in_default.in_default-own.rest.0.0.0.0.0.1, ne_eqb _ _ c.in_default.in_default-own.rest.0.0.0.0.1, ne_eqb _ _ c.in_default.in_default-own.rest.0.0.0.1, ne_eqb _ _ c.in_default.in_default-own.rest.0.0.1, ne_eqb _ _ c.in_default.in_default-own.rest.0.1, ne_eqb _ _ c.in_default.in_default-own.rest.1, c.names_entry.ensures)
 
 pub returns-in-0 : goal.returns-in-0
-returns-in-0 c = simp (c.in-0.is, c.names_type.ensures)
+returns-in-0 c = simp (c.in-0.is, c.names.ensures)
 
 pub returns-in-1 : goal.returns-in-1
-returns-in-1 c = simp (c.in-1.is, c.names_domain.ensures)
+returns-in-1 c = simp (c.in-1.is, c.names-in-1.ensures)
 
 pub returns-in-2 : goal.returns-in-2
 returns-in-2 c = simp (c.in-2.is, c.below.ensures)
@@ -21,4 +21,4 @@ pub returns-in-4 : goal.returns-in-4
 returns-in-4 c = simp c.in-4.is
 
 pub returns-in-5 : goal.returns-in-5
-returns-in-5 c = simp (c.in-5.is, c.names_term.ensures)
+returns-in-5 c = simp (c.in-5.is, c.names-in-5.ensures)

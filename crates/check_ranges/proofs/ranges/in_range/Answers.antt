@@ -19,40 +19,40 @@ returns-in-1073758470 c =
 
 pub returns-in-2147516936 : goal.returns-in-2147516936
 unfolding all ranges_from groups_from classes_past
-returns-in-2147516936 c = simp (c.in-2147516936.is, c.names_domain.ensures, c.names_type.ensures, and-true)
+returns-in-2147516936 c = simp (c.in-2147516936.is, c.names-in-2147516936.ensures, c.names.ensures, and-true)
 
 pub returns-in-2147517194 : goal.returns-in-2147517194
 unfolding all ranges_from groups_from classes_past
-returns-in-2147517194 c = simp (c.in-2147517194.is, c.names_type-in-2147517194-2.ensures, c.names_domain-in-2147517194.ensures, c.names_type-in-2147517194.ensures, and-true)
+returns-in-2147517194 c = simp (c.in-2147517194.is, c.names-in-2147517194-3.ensures, c.names-in-2147517194-2.ensures, c.names-in-2147517194.ensures, and-true)
 
 pub returns-in-2147484168 : goal.returns-in-2147484168
 unfolding all ranges_from groups_from classes_past
-returns-in-2147484168 c = simp (c.in-2147484168.is, c.names_type-in-2147484168-2.ensures, c.names_type-in-2147484168.ensures, and-true)
+returns-in-2147484168 c = simp (c.in-2147484168.is, c.names-in-2147484168-2.ensures, c.names-in-2147484168.ensures, and-true)
 
 pub returns-in-2147488006 : goal.returns-in-2147488006
 unfolding all ranges_from groups_from classes_past
-returns-in-2147488006 c = simp (c.in-2147488006.is, c.names_domain-in-2147488006.ensures, and-true)
+returns-in-2147488006 c = simp (c.in-2147488006.is, c.names-in-2147488006.ensures, and-true)
 
-pub names_type-requires : goal.names_type-requires
-names_type-requires c = omega (arith, first_held _ _ _ c.in-2147516936.is c.requires.1)
+pub names-requires : goal.names-requires
+names-requires c = omega (arith, first_held _ _ _ c.in-2147516936.is c.requires.1)
 
-pub names_domain-requires : goal.names_domain-requires
-names_domain-requires c = omega (arith, first_held _ _ _ c.in-2147516936.is c.requires.1)
+pub names-requires-in-2147516936 : goal.names-requires-in-2147516936
+names-requires-in-2147516936 c = omega (arith, first_held _ _ _ c.in-2147516936.is c.requires.1)
 
-pub names_type-requires-in-2147517194 : goal.names_type-requires-in-2147517194
-names_type-requires-in-2147517194 c = omega (arith, first_held _ _ _ c.in-2147517194.is c.requires.1)
+pub names-requires-in-2147517194 : goal.names-requires-in-2147517194
+names-requires-in-2147517194 c = omega (arith, first_held _ _ _ c.in-2147517194.is c.requires.1)
 
-pub names_domain-requires-in-2147517194 : goal.names_domain-requires-in-2147517194
-names_domain-requires-in-2147517194 c = omega (arith, first_held _ _ _ c.in-2147517194.is c.requires.1)
+pub names-requires-in-2147517194-2 : goal.names-requires-in-2147517194-2
+names-requires-in-2147517194-2 c = omega (arith, first_held _ _ _ c.in-2147517194.is c.requires.1)
 
-pub names_type-requires-in-2147517194-2 : goal.names_type-requires-in-2147517194-2
-names_type-requires-in-2147517194-2 c = omega (arith, first_held _ _ _ c.in-2147517194.is c.requires.1)
+pub names-requires-in-2147517194-3 : goal.names-requires-in-2147517194-3
+names-requires-in-2147517194-3 c = omega (arith, first_held _ _ _ c.in-2147517194.is c.requires.1)
 
-pub names_type-requires-in-2147484168 : goal.names_type-requires-in-2147484168
-names_type-requires-in-2147484168 c = omega (arith, first_held _ _ _ c.in-2147484168.is c.requires.1)
+pub names-requires-in-2147484168 : goal.names-requires-in-2147484168
+names-requires-in-2147484168 c = omega (arith, first_held _ _ _ c.in-2147484168.is c.requires.1)
 
-pub names_type-requires-in-2147484168-2 : goal.names_type-requires-in-2147484168-2
-names_type-requires-in-2147484168-2 c = omega (arith, first_held _ _ _ c.in-2147484168.is c.requires.1)
+pub names-requires-in-2147484168-2 : goal.names-requires-in-2147484168-2
+names-requires-in-2147484168-2 c = omega (arith, first_held _ _ _ c.in-2147484168.is c.requires.1)
 
-pub names_domain-requires-in-2147488006 : goal.names_domain-requires-in-2147488006
-names_domain-requires-in-2147488006 c = omega (arith, first_held _ _ _ c.in-2147488006.is c.requires.1)
+pub names-requires-in-2147488006 : goal.names-requires-in-2147488006
+names-requires-in-2147488006 c = omega (arith, first_held _ _ _ c.in-2147488006.is c.requires.1)

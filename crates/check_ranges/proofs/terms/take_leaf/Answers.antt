@@ -4,4 +4,4 @@ use Rattle.check_ranges.proofs.terms.take_leaf.Goals as goal
 
 pub returns-then-ok : goal.returns-then-ok
 returns-then-ok c =
-    (c.names_type-ok.ensures, rw c.if-ok.true (c.enter_leaf.ensures ∙ rw c.next.ensures refl))
+    (c.names-ok.ensures, rw c.if-ok.true (c.enter_leaf.ensures ∙ rw c.next.ensures refl))

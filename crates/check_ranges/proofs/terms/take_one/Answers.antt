@@ -6,14 +6,14 @@ use Rattle.check_ranges.proofs.terms.take_one.Goals as goal
 
 pub enter_one-requires : goal.enter_one-requires
 enter_one-requires c =
-    let y0 = both_told c.names_type.result c.names_term.result refl c.if-ok.true in
+    let y0 = both_told c.names.result c.names-2.result refl c.if-ok.true in
     let l = c.requires.2 in
-    (omega (arith, c.next.ensures), child_told c.names_term.ensures y0.1 c.field_as.ensures l)
+    (omega (arith, c.next.ensures), child_told c.names-2.ensures y0.1 c.field_as.ensures l)
 
 pub returns-then-ok : goal.returns-then-ok
 returns-then-ok c =
-    (rw (c.names_term.ensures, c.names_type.ensures) refl, rw c.if-ok.true (c.enter_one.ensures ∙ rw (c.next.ensures, c.field_as.ensures) refl))
+    (rw (c.names-2.ensures, c.names.ensures) refl, rw c.if-ok.true (c.enter_one.ensures ∙ rw (c.next.ensures, c.field_as.ensures) refl))
 
 pub returns-else-ok : goal.returns-else-ok
 returns-else-ok c =
-    (rw (c.names_term.ensures, c.names_type.ensures) refl, rw c.if-ok.false refl)
+    (rw (c.names-2.ensures, c.names.ensures) refl, rw c.if-ok.false refl)

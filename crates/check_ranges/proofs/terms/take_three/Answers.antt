@@ -7,16 +7,16 @@ use Rattle.check_ranges.proofs.terms.take_three.Goals as goal
 
 pub enter_three-requires : goal.enter_three-requires
 enter_three-requires c =
-    let y2 = both_told c.names_type.result (c.names_term.result && (c.names_term-2.result && c.names_term-3.result)) refl c.if-ok.true in
-    let y1 = both_told c.names_term.result (c.names_term-2.result && c.names_term-3.result) refl y2.1 in
-    let y0 = both_told c.names_term-2.result c.names_term-3.result refl y1.1 in
+    let y2 = both_told c.names.result (c.names-2.result && (c.names-3.result && c.names-4.result)) refl c.if-ok.true in
+    let y1 = both_told c.names-2.result (c.names-3.result && c.names-4.result) refl y2.1 in
+    let y0 = both_told c.names-3.result c.names-4.result refl y1.1 in
     let l = c.requires.2 in
-    (omega (arith, c.next.ensures), child_told c.names_term.ensures y1.0 c.field_as.ensures l, child_told c.names_term-2.ensures y0.0 c.field_as-then-ok.ensures l, child_told c.names_term-3.ensures y0.1 c.field_as-then-ok-2.ensures l)
+    (omega (arith, c.next.ensures), child_told c.names-2.ensures y1.0 c.field_as.ensures l, child_told c.names-3.ensures y0.0 c.field_as-then-ok.ensures l, child_told c.names-4.ensures y0.1 c.field_as-then-ok-2.ensures l)
 
 pub returns-then-ok : goal.returns-then-ok
 returns-then-ok c =
-    (rw (c.names_term-3.ensures, c.names_term-2.ensures, c.names_term.ensures, c.names_type.ensures) refl, rw c.if-ok.true (c.enter_three.ensures ∙ rw (c.next.ensures, c.field_as.ensures, c.field_as-then-ok.ensures, c.field_as-then-ok-2.ensures) refl))
+    (rw (c.names-4.ensures, c.names-3.ensures, c.names-2.ensures, c.names.ensures) refl, rw c.if-ok.true (c.enter_three.ensures ∙ rw (c.next.ensures, c.field_as.ensures, c.field_as-then-ok.ensures, c.field_as-then-ok-2.ensures) refl))
 
 pub returns-else-ok : goal.returns-else-ok
 returns-else-ok c =
-    (rw (c.names_term-3.ensures, c.names_term-2.ensures, c.names_term.ensures, c.names_type.ensures) refl, rw c.if-ok.false refl)
+    (rw (c.names-4.ensures, c.names-3.ensures, c.names-2.ensures, c.names.ensures) refl, rw c.if-ok.false refl)

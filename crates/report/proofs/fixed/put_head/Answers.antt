@@ -11,5 +11,5 @@ pub returns : goal.returns
 unfolding bytes_of
 returns c =
     let a = c.args in
-    let e = c.outcome_number.ensures in
+    let e = c.from.ensures in
     fields_written report_kind a.report.now 0 (bytes16 (outcome_number a.outcome)) (bytes32 a.steps) 10 6 refl refl c.put_header.ensures (rw e at c.put16.ensures) c.put32.ensures (omega arith)

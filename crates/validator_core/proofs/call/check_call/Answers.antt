@@ -8,9 +8,6 @@ pub returns-then-image-gt-IMAGE_LIMIT : goal.returns-then-image-gt-IMAGE_LIMIT
 returns-then-image-gt-IMAGE_LIMIT c =
     (too_long_refused c.args.image.now c.args.lent _ _ _ c.if-image-gt-IMAGE_LIMIT.true, c.requires.0, c.requires.1, c.requires.2)
 
-pub examine_image-requires : goal.examine_image-requires
-examine_image-requires c = (search rules, record { doms = search rules; types = search rules; descriptors = search rules; terms = search rules })
-
 pub returns-then-lent-lt-WORK_LENGTH : goal.returns-then-lent-lt-WORK_LENGTH
 returns-then-lent-lt-WORK_LENGTH c =
     (short_work_refused c.args.image.now c.args.lent c.if-image-gt-IMAGE_LIMIT.false _ _ _ _ _ c.examine_image.ensures.0 _ c.in_ok-counts.was c.if-lent-lt-WORK_LENGTH.true, c.examine_image.ensures.1, c.examine_image.ensures.2, c.examine_image.ensures.3)

@@ -2,7 +2,7 @@
 use Rattle.validator_core.proofs.Filling.{offsets_held}
 use Rattle.validator_core.proofs.Passes.{stopped_answer, laid_tables, laid_marks, checked_answer}
 use borrow.Author.Rules.{rules}
-use mathlib.Core.Path.{refl, sym, ap, ◌∙◌}
+use mathlib.Core.Path.{sym, ap, ◌∙◌}
 use Rattle.std.proofs.Common.{◌≡◌, Err}
 use Rattle.validator_core.specs.Examined.{with_counts}
 use Rattle.validator_core.proofs.examine.examine_image.Goals as goal
@@ -29,8 +29,3 @@ pub returns : goal.returns
 returns c =
     let d = sym (ap (λ v. with_counts v c.in_ok-counts.counts) c.in_ok-check_laid_out.was) in
     (checked_answer _ _ _ _ _ _ _ c.requires.0 c.scan_records.ensures _ c.in_ok-counts.was _ _ c.check_laid_out.ensures d, search rules, search rules, search rules)
-
-pub scan_records-requires : goal.scan_records-requires
-scan_records-requires c =
-    let p = c.requires in
-    (record { short = p.0; codes = c.kind_codes-kinds.ensures; long = p.1 }, refl)

@@ -2,13 +2,8 @@ use native.Mathlib.Omega.{arith}
 use Rattle.vm_memory.specs.View.{memory_of}
 use Rattle.vm_results.specs.Ended.{plain_leaves_in}
 use Rattle.vm_results.proofs.Gathering.{gathered_few, plain_few}
-use Rattle.vm_results.proofs.CellRecords.{cell_written, other_cell, plain_cell}
+use Rattle.vm_results.proofs.CellRecords.{cell_written, plain_cell}
 use Rattle.vm_results.proofs.cells.put_cell.Goals as goal
-
-pub returns-then-note-lt-DOMAINS : goal.returns-then-note-lt-DOMAINS
-returns-then-note-lt-DOMAINS c =
-    let a = c.args in
-    cell_written a.report.now a.at (other_cell (memory_of a.work.now) a.i _ _ _ c.cell_at-w.ensures c.cell_note-note.ensures c.note_domain-dom.ensures c.if-note-lt-DOMAINS.true) c.put_other_cell.ensures
 
 pub put_plain_cell-requires : goal.put_plain_cell-requires
 put_plain_cell-requires c =

@@ -1,5 +1,5 @@
 use native.Mathlib.Omega.{arith}
-use mathlib.Core.Path.{◌≡◌, refl, ◌∙◌}
+use mathlib.Core.Path.{refl, ◌∙◌}
 use Rattle.vm_memory.specs.View.{memory_of}
 use Rattle.vm_results.proofs.CellRecords.{no_cells, cells_step}
 use Rattle.vm_results.proofs.cells.put_cells.Goals as goal
@@ -15,12 +15,3 @@ loop-i-preserved c =
     let t = c.loop-i-test.true in
     let s = cells_step (memory_of a.work.now) a.report.now a.at l.i l.o l.invariant.2 l.invariant.3 w.ensures.0 w.ensures.1 (omega (arith, l.invariant.0, c.requires.2)) in
     (omega (arith, s.2, l.invariant.0), c.put_cell-o.auto.report ∙ l.invariant.1, s.0, s.1)
-
-pub returns : goal.returns
-returns c =
-    let l = c.loop-i in
-    let e : l.i ≡ c.args.n = omega arith in
-    (rw e at l.invariant.2, rw e at l.invariant.3, omega arith)
-
-pub put_cell-o-requires : goal.put_cell-o-requires
-put_cell-o-requires c = (c.requires.0, omega arith, omega arith)
