@@ -1,5 +1,5 @@
 -- Card 11: the fixed form of an image that runs.
-use Rattle.std.specs.Prelude.{Ok}
+use Rattle.std.specs.Prelude.{Ok, Err}
 use Prim.Native.Nat.{ℕ, ◌≤◌}
 use native.Mathlib.Omega.{arith}
 use mathlib.Core.Path.{◌≡◌, sym, ap, ◌∙◌}
@@ -17,7 +17,6 @@ use Rattle.verdict.proofs.Passed.{passed_iff}
 use Rattle.base_bytes.specs.Bytes.{over}
 use Rattle.image_written.specs.Written.{fixed}
 use Rattle.image_written.proofs.Fixed.{fixed_holds, fixed_twice, fixed_short, fixed_same}
-use Rattle.write_fixed.specs.declared.Written.{Written}
 use Rattle.write_fixed.specs.Calls.{Left, after_check, fixed_call}
 use Rattle.call_spec.specs.Runs.{given_by, run_of}
 use Rattle.call_spec.specs.Calls.{after_verdict, called}
@@ -42,19 +41,19 @@ module _ (b report work : List ℕ) (ok : Runs b report work) where
       let a = (passed_iff b (length work) (length report)).0 ok in
       (passed_iff b work_length report_length).1 (record { short = a.short; laid_out = a.laid_out; shaped = a.shaped; well_typed = a.well_typed; plain = a.plain; work_enough = omega arith; report_enough = omega arith })
 
-  writes : (out : List ℕ) → length b ≤ length out → fixed_call b out ≡ record { answer = Written.Bytes (length (fixed b)); out = over 0 (fixed b) out }
+  writes : (out : List ℕ) → length b ≤ length out → fixed_call b out ≡ record { answer = Ok (length (fixed b)); out = over 0 (fixed b) out }
   unfolding fixed_call
   writes out h = ap (λ v. after_check v b out) least ∙ chosen
     where
-      chosen : after_check (Ok tt) b out ≡ record { answer = Written.Bytes (length (fixed b)); out = over 0 (fixed b) out }
+      chosen : after_check (Ok tt) b out ≡ record { answer = Ok (length (fixed b)); out = over 0 (fixed b) out }
       chosen = simp (le-ltb _ _ h)
 
 -- What was written is told by the answer and the output.
 abbrev count_of : Left → ℕ
-count_of X = elim X.answer [ Written.Bytes n ↦ n | Written.Refused r place ↦ 0 | Written.ShortOutput ↦ 0 ]
+count_of X = elim X.answer [ Ok n ↦ n | Err e ↦ 0 ]
 
 abbrev wrote : List ℕ → List ℕ → Left
-wrote xs out = record { answer = Written.Bytes (length xs); out = over 0 xs out }
+wrote xs out = record { answer = Ok (length xs); out = over 0 xs out }
 
 same_front : (xs ys out : List ℕ) → wrote xs out ≡ wrote ys out → xs ≡ ys
 same_front xs ys out e = sym (take_front xs out) ∙ ap (λ X. take (count_of X) X.out) e ∙ take_front ys out

@@ -24,7 +24,7 @@ use Rattle.verdict.proofs.Accept.{accepted_good}
 use Rattle.base_bytes.specs.Bytes.{over}
 use Rattle.image_written.specs.Stripped.{without_watches}
 use Rattle.write_masks.specs.Masks.{in_mask}
-use Rattle.write_stripped.specs.declared.Stripped.{Stripped}
+use Rattle.write_stripped.specs.declared.StripError.{StripError}
 use Rattle.write_stripped.specs.Calls.{wrong_set, Left, after_check, stripped_call}
 use Rattle.call_spec.specs.Calls.{called}
 use Rattle.demands.specs.Calls.{Runs}
@@ -52,11 +52,11 @@ card13_call b mask n out h = look (verdict b work_length report_length) refl h
     W = without_watches (in_mask mask) b
 
     Asked : Left → Type 0
-    Asked X = X.answer ≡ Stripped.Bytes n → WritesStripped b mask n out X.out
+    Asked X = X.answer ≡ Ok n → WritesStripped b mask n out X.out
 
     go : LayoutOk (records_of b) → (x : Bool) → wrong_set (records_of b) mask ≡ x → (y : Bool) → Asked
-        (choose x (record { answer = Stripped.WrongSet; out = out })
-        (choose y (record { answer = Stripped.ShortOutput; out = out }) (record { answer = Stripped.Bytes (length W); out = over 0 W out })))
+        (choose x (record { answer = Err StripError.WrongSet; out = out })
+        (choose y (record { answer = Err StripError.ShortOutput; out = out }) (record { answer = Ok (length W); out = over 0 W out })))
     go g true p y e = let z : ◌≡◌ {A = ℕ} 0 1 = cc in absurd (omega arith)
     go g false p true e = let z : ◌≡◌ {A = ℕ} 0 1 = cc in absurd (omega arith)
     go g false p false e =

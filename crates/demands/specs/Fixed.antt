@@ -1,11 +1,10 @@
 -- Card 11 of document 02 about whole calls: the fixed form of an accepted image.
-use Rattle.std.specs.Prelude.{ℕ, ◌≤◌, ◌≡◌, List, ◌↔◌, length}
+use Rattle.std.specs.Prelude.{ℕ, ◌≤◌, ◌≡◌, List, ◌↔◌, length, Ok}
 use Rattle.image.specs.Layout.{records_of}
 use Rattle.image.specs.Program.{program}
 use Rattle.verdict.specs.Domains.{masks}
 use Rattle.base_bytes.specs.Bytes.{over}
 use Rattle.image_written.specs.Written.{fixed}
-use Rattle.write_fixed.specs.declared.Written.{Written}
 use Rattle.write_fixed.specs.Calls.{fixed_call}
 use Rattle.call_spec.specs.Runs.{run_of}
 use Rattle.call_spec.specs.Calls.{called}
@@ -22,7 +21,7 @@ pub record Card11 (b report work : List ℕ) : Type 0 where
   pub same_program : SameProgram (fixed b) b
   pub short : length (fixed b) ≤ length b
   -- a call with an output that is not shorter than the image writes it: "Output past it stays, and its length is returned."
-  pub written : (out : List ℕ) → length b ≤ length out → fixed_call b out ≡ record { answer = Written.Bytes (length (fixed b)); out = over 0 (fixed b) out }
+  pub written : (out : List ℕ) → length b ≤ length out → fixed_call b out ≡ record { answer = Ok (length (fixed b)); out = over 0 (fixed b) out }
   -- "Two accepted images give equal bytes exactly when they have the same domains and the same program tree with types."
   pub equal : (c : List ℕ) → Runs c report work → (out : List ℕ) → length b ≤ length out → length c ≤ length out → fixed_call b out ≡ fixed_call c out ↔ SameProgram b c
   -- "Writing twice changes nothing"

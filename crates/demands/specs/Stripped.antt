@@ -1,5 +1,5 @@
 -- Card 13 of document 02 about whole calls: an image stripped of its watches, and a call that is done at a larger budget.
-use Rattle.std.specs.Prelude.{ℕ, ◌≤◌, ◌<◌, ◌≡◌, Bool, false, List, length, take, drop}
+use Rattle.std.specs.Prelude.{ℕ, ◌≤◌, ◌<◌, ◌≡◌, Bool, false, List, length, take, drop, Ok}
 use Rattle.calculus.specs.declared.Outcome.{Outcome}
 use Rattle.calculus.specs.Limits.{word_size}
 use Rattle.calculus.specs.Syntax.{Dom}
@@ -10,7 +10,6 @@ use Rattle.verdict.specs.Domains.{masks}
 use Rattle.image_written.specs.Written.{fixed}
 use Rattle.image_written.specs.Stripped.{stripped as strippedTree, without_watches}
 use Rattle.write_masks.specs.Masks.{in_mask}
-use Rattle.write_stripped.specs.declared.Stripped.{Stripped}
 use Rattle.write_stripped.specs.Calls.{stripped_call}
 use Rattle.report.specs.declared.Ending.{Ending}
 use Rattle.report.specs.Read.{read_report}
@@ -80,4 +79,4 @@ pub record WritesStripped (b : List ℕ) (mask n : ℕ) (out out' : List ℕ) : 
 
 abbrev pub Card13Call : Type 0
 Card13Call =
-    (b : List ℕ) (mask n : ℕ) (out : List ℕ) → (stripped_call b mask out).answer ≡ Stripped.Bytes n → WritesStripped b mask n out (stripped_call b mask out).out
+    (b : List ℕ) (mask n : ℕ) (out : List ℕ) → (stripped_call b mask out).answer ≡ Ok n → WritesStripped b mask n out (stripped_call b mask out).out

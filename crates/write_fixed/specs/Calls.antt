@@ -1,5 +1,5 @@
 -- What a call that writes the fixed form of an image answers, and what the output then holds, from any image and any output (document 02, card 11).
-use Rattle.std.specs.Prelude.{ℕ, List, length, Ok, Err}
+use Rattle.std.specs.Prelude.{ℕ, List, length, Result, Ok, Err}
 use Rattle.calculus.specs.Combinators.{choose}
 use Rattle.image.specs.Limits.{work_length, report_length}
 use Rattle.image.specs.Refusals.{refusal_number}
@@ -7,38 +7,43 @@ use Rattle.verdict.specs.Answers.{Verdict}
 use Rattle.verdict.specs.Verdicts.{verdict}
 use Rattle.base_bytes.specs.Bytes.{over}
 use Rattle.image_written.specs.Written.{fixed, too_short}
-use Rattle.write_fixed.specs.declared.Written.{Written}
+use Rattle.write_fixed.specs.declared.FixedError.{FixedError}
 
 -- "20 the output is shorter than the image, place 0": the number of each answer, 0 where the fixed form was written, and the place.
 abbrev pub short_output : ℕ
 short_output = 20
 
-abbrev pub written_number : Written → ℕ
-written_number (Written.Bytes n) = 0
-written_number (Written.Refused r place) = refusal_number r
-written_number Written.ShortOutput = short_output
+abbrev pub error_number : FixedError → ℕ
+error_number (FixedError.Refused refusal) = refusal_number refusal.why
+error_number FixedError.ShortOutput = short_output
 
-abbrev pub written_place : Written → ℕ
-written_place (Written.Bytes n) = 0
-written_place (Written.Refused r place) = place
-written_place Written.ShortOutput = 0
+abbrev pub error_place : FixedError → ℕ
+error_place (FixedError.Refused refusal) = refusal.place
+error_place FixedError.ShortOutput = 0
+
+abbrev pub written_number : Result ℕ FixedError → ℕ
+written_number (Ok n) = 0
+written_number (Err e) = error_number e
+
+abbrev pub written_place : Result ℕ FixedError → ℕ
+written_place (Ok n) = 0
+written_place (Err e) = error_place e
 
 -- How many bytes were written.
-abbrev pub written_bytes : Written → ℕ
-written_bytes (Written.Bytes n) = n
-written_bytes (Written.Refused r place) = 0
-written_bytes Written.ShortOutput = 0
+abbrev pub written_bytes : Result ℕ FixedError → ℕ
+written_bytes (Ok n) = n
+written_bytes (Err e) = 0
 
 -- What a call answers, and what the output then holds.
 pub record Left : Type 0 where
-  pub answer : Written
+  pub answer : Result ℕ FixedError
   pub out : List ℕ
 
 -- "Output past it stays, and its length is returned." An image that is refused, and an output that is too short: "nothing is written".
 abbrev pub after_check : Verdict → List ℕ → List ℕ → Left
-after_check (Err refusal) b out = record { answer = Written.Refused refusal.why refusal.place; out = out }
+after_check (Err refusal) b out = record { answer = Err (FixedError.Refused refusal); out = out }
 after_check (Ok tt) b out =
-    choose (too_short out b) (record { answer = Written.ShortOutput; out = out }) (record { answer = Written.Bytes (length (fixed b)); out = over 0 (fixed b) out })
+    choose (too_short out b) (record { answer = Err FixedError.ShortOutput; out = out }) (record { answer = Ok (length (fixed b)); out = over 0 (fixed b) out })
 
 -- "After the check's refusals", 1 to 16: those of a call with a work area and a report that are long enough.
 unfoldable pub fixed_call : List ℕ → List ℕ → Left

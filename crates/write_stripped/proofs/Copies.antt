@@ -12,7 +12,6 @@ use Rattle.image.specs.Records.{Layout}
 use Rattle.image.specs.Layout.{laid, layout, records_of}
 use Rattle.image.specs.Program.{program}
 use Rattle.image.proofs.Laid.{layout_good, image_kept, records_of_lem}
-use Rattle.verdict.specs.Answers.{Verdict}
 use Rattle.verdict.specs.Domains.{masks}
 use Rattle.verdict.specs.Verdicts.{verdict}
 use Rattle.verdict.proofs.Passed.{Passed, passed_iff}

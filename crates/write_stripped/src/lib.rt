@@ -3,10 +3,9 @@
 // set of high domains, or if the output is shorter than the image.
 #![tactic(auto)]
 
-ghost use Rattle.std.specs.Prelude.{◌≡◌, ◌≤◌, length};
+ghost use Rattle.std.specs.Prelude.{◌≡◌, Ok, ◌≤◌, length};
 ghost use Rattle.image.specs.Limits.{image_limit};
 ghost use Rattle.image.specs.Layout.{records_of};
-ghost use Rattle.verdict.specs.declared.Verdict.{Verdict};
 ghost use Rattle.base_bytes.specs.Bytes.{over};
 ghost use Rattle.read_records.specs.Codes.{kind_codes};
 ghost use Rattle.read_records.specs.Tables.{Tables, Counted};
@@ -14,28 +13,57 @@ ghost use Rattle.read_terms.specs.Lent.{Domains, TypeOffsets};
 ghost use Rattle.validator_core.specs.Examined.{examined};
 ghost use Rattle.image_written.specs.Stripped.{without_watches};
 ghost use Rattle.write_masks.specs.Masks.{in_mask};
-ghost use Rattle.write_stripped.specs.Calls.{wrong_set, stripped_number, stripped_place, stripped_bytes, stripped_call};
+ghost use Rattle.write_stripped.specs.declared.StripError.{StripError};
+ghost use Rattle.write_stripped.specs.Calls.{wrong_set, error_number, error_place, stripped_number, stripped_place, stripped_bytes, stripped_call};
 
-use image::{DOMAIN_LIMIT, IMAGE_LIMIT, Refusal, TERM_LIMIT, TYPE_LIMIT};
+use image::{DOMAIN_LIMIT, IMAGE_LIMIT, Refusal, Refused, TERM_LIMIT, TYPE_LIMIT};
 use read_records::numbers::Counts;
 use read_terms::domains::set_masks;
-use validator_core::examine::Checked;
 use write_image::write_whole;
 use write_unit_bodies::copy_with_unit_bodies;
-
-// So many bytes were written; or why none was.
-#[derive(Clone, Copy)]
-pub enum Stripped {
-    Bytes(usize),
-    Refused(Refusal, usize),
-    WrongSet,
-    ShortOutput,
-}
 
 // The numbers of a mask that is no set of high domains, and of an output that is shorter than the image (document 02, card 13).
 const WRONG_SET: u16 = 23;
 
 const SHORT_OUTPUT: u16 = 24;
+
+// Why nothing was written: the image is refused, the mask is no set of high domains, or the output is too short.
+#[derive(Clone, Copy)]
+pub enum StripError {
+    Refused(Refused),
+    WrongSet,
+    ShortOutput,
+}
+
+impl From<Refused> for StripError {
+    ghost from_gives = { λ refused e. e ≡ StripError.Refused refused };
+
+    fn from(refused: Refused) -> Self {
+        Self::Refused(refused)
+    }
+}
+
+impl StripError {
+    // Its number (document 02, card 13), and its place.
+    pub fn number(self) -> u16
+        ensures { result ≡ error_number self }
+    {
+        match self {
+            Self::Refused(refused) => image_refusals::refusal_number(refused.why),
+            Self::WrongSet => WRONG_SET,
+            Self::ShortOutput => SHORT_OUTPUT,
+        }
+    }
+
+    pub fn place(self) -> usize
+        ensures { result ≡ error_place self }
+    {
+        match self {
+            Self::Refused(refused) => refused.place,
+            Self::WrongSet | Self::ShortOutput => 0,
+        }
+    }
+}
 
 // The mask is no set of high domains of the image.
 fn is_wrong_set(image: &[u8], doms: &[u16], count: usize, mask: u16) -> bool
@@ -60,7 +88,7 @@ fn write_copy(
     copy: &mut [u8],
     out: &mut [u8],
 ) -> usize
-    requires { (length image.now ≤ image_limit) × (examined image.now ≡ Verdict.Accepted) × (codes.now ≡ kind_codes) × Tables image.now doms.now terms.now descriptors.now × Counted image.now counts × TypeOffsets image.now types.now × (length copy.old ≡ length image.now) × (length image.now ≤ length out.old) }
+    requires { (length image.now ≤ image_limit) × (examined image.now ≡ Ok tt) × (codes.now ≡ kind_codes) × Tables image.now doms.now terms.now descriptors.now × Counted image.now counts × TypeOffsets image.now types.now × (length copy.old ≡ length image.now) × (length image.now ≤ length out.old) }
     ensures { (result ≡ length (without_watches (in_mask mask) image.now)) × (out.new ≡ over 0 (without_watches (in_mask mask) image.now) out.old) }
 {
     copy_with_unit_bodies(image, terms, descriptors, counts.terms, mask, copy);
@@ -78,16 +106,16 @@ fn write_checked(
     terms: &[u16],
     mask: u16,
     out: &mut [u8],
-) -> Stripped
-    requires { (length image.now ≤ image_limit) × (examined image.now ≡ Verdict.Accepted) × (codes.now ≡ kind_codes) × Tables image.now doms.now terms.now descriptors.now × Counted image.now counts × TypeOffsets image.now types.now }
+) -> Result<usize, StripError>
+    requires { (length image.now ≤ image_limit) × (examined image.now ≡ Ok tt) × (codes.now ≡ kind_codes) × Tables image.now doms.now terms.now descriptors.now × Counted image.now counts × TypeOffsets image.now types.now }
     ensures { record { answer = result; out = out.new } ≡ stripped_call image.now mask out.old }
 {
     if is_wrong_set(image, doms, counts.domains, mask) {
-        return Stripped::WrongSet;
+        return Err(StripError::WrongSet);
     }
     let size = image.len();
     if out.len() < size {
-        return Stripped::ShortOutput;
+        return Err(StripError::ShortOutput);
     }
     let mut copy = [0u8; IMAGE_LIMIT];
     let n = write_copy(
@@ -102,77 +130,67 @@ fn write_checked(
         &mut copy[..size],
         out,
     );
-    Stripped::Bytes(n)
+    Ok(n)
 }
 
 // One call: the image is only read, the output may have any length and content.
-pub fn write_stripped(image: &[u8], mask: u16, out: &mut [u8]) -> Stripped
+pub fn write_stripped(image: &[u8], mask: u16, out: &mut [u8]) -> Result<usize, StripError>
     ensures { record { answer = result; out = out.new } ≡ stripped_call image.now mask out.old }
 {
     if IMAGE_LIMIT < image.len() {
-        return Stripped::Refused(Refusal::ImageTooLong, 0);
+        let too_long = Refused {
+            why: Refusal::ImageTooLong,
+            place: 0,
+        };
+        return Err(StripError::Refused(too_long));
     }
     let codes = read_records::table::kind_codes();
     let mut doms = [0u16; DOMAIN_LIMIT];
     let mut types = [0u16; TYPE_LIMIT];
     let mut descriptors = [0u32; TYPE_LIMIT];
     let mut terms = [0u16; TERM_LIMIT];
-    let checked = validator_core::examine::examine_image(
+    let counts = validator_core::examine::examine_image(
         image,
         &mut doms,
         &mut types,
         &mut descriptors,
         &mut terms,
-    );
-    match checked {
-        Err(refused) => Stripped::Refused(refused.why, refused.place),
-        Ok(counts) => {
-            write_checked(
-                image,
-                &codes,
-                counts,
-                &doms,
-                &types,
-                &descriptors,
-                &terms,
-                mask,
-                out,
-            )
-        }
-    }
+    )?;
+    write_checked(
+        image,
+        &codes,
+        counts,
+        &doms,
+        &types,
+        &descriptors,
+        &terms,
+        mask,
+        out,
+    )
 }
 
 // The number of an answer, 0 where the image was written, and its place.
-pub fn stripped_number(s: Stripped) -> u16
+pub fn stripped_number(s: Result<usize, StripError>) -> u16
     ensures { result ≡ stripped_number s }
 {
     match s {
-        Stripped::Bytes(_) => 0,
-        Stripped::Refused(why, _) => image_refusals::refusal_number(why),
-        Stripped::WrongSet => WRONG_SET,
-        Stripped::ShortOutput => SHORT_OUTPUT,
+        Ok(_) => 0,
+        Err(why) => why.number(),
     }
 }
 
-pub fn stripped_place(s: Stripped) -> usize
+pub fn stripped_place(s: Result<usize, StripError>) -> usize
     ensures { result ≡ stripped_place s }
 {
     match s {
-        Stripped::Bytes(_) => 0,
-        Stripped::Refused(_, place) => place,
-        Stripped::WrongSet => 0,
-        Stripped::ShortOutput => 0,
+        Ok(_) => 0,
+        Err(why) => why.place(),
     }
 }
 
 // How many bytes were written.
-pub fn stripped_bytes(s: Stripped) -> usize
+pub fn stripped_bytes(s: Result<usize, StripError>) -> usize
     ensures { result ≡ stripped_bytes s }
 {
-    match s {
-        Stripped::Bytes(n) => n,
-        Stripped::Refused(_, _) => 0,
-        Stripped::WrongSet => 0,
-        Stripped::ShortOutput => 0,
-    }
+    s.unwrap_or(0)
 }
