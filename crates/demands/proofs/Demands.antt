@@ -122,7 +122,7 @@ demand1_refused b frame budget log report work refused = look (verdict b (length
         subst (Rejection (Err refusal) log report work) (sym (refused_leaves b frame budget log report work refusal.why refusal.place h))
         (record {
           number = refusal_number refusal.why;
-          refusal.place = refusal.place;
+          place = refusal.place;
           refusal = refl;
           answered = refl;
           no_outcome = refl;
