@@ -207,6 +207,7 @@ pub fn descriptor_with(kind: u16, a: u16, b: u16, c: u16) -> u32
 }
 
 // The parts of a descriptor.
+// Kept: (d) one function of the byte's place would have its contract choose among the four definitions by that place.
 pub fn descriptor_kind(k: u32) -> u16
     ensures { result ≡ descriptor_kind k }
 {
