@@ -67,8 +67,7 @@ DEEPEST = 3
 # A number over this has a name, but in these functions. The length of an array is a literal in Rattle.
 LARGEST_BARE = 8
 NUMBERS_IN_PLACE = {
-    "the bytes of a number: powers of 256": "listing_lines: join long; read_records: descriptor_field0"
-        " descriptor_field1 descriptor_field2 descriptor_kind descriptor_with; report: put16 put32; vm_pass_up: number_word",
+    "the bytes of a number: powers of 256": "listing_lines: join long; report: put16 put32; vm_pass_up: number_word",
     "the bits of a word: powers of 2, by the widths that stand beside": "read_records: child_count entry_count field_classes;"
         " check_typing: verdict_of; check_repeats: bit_of mix place_of word_of",
     "a table: a number for each case": "image_refusals: refusal_number; answers_as_numbers: put_numbers; vm_decode: unary_move;"

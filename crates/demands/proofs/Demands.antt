@@ -118,11 +118,11 @@ demand1_refused b frame budget log report work refused = look (verdict b (length
   where
     look : (v : Verdict) → verdict b (length work) (length report) ≡ v → Rejection v log report work (called b frame budget log report work)
     look (Ok tt) h = absurd (refused ((demand2_acceptance b frame budget log report work).0 h))
-    look (Err e) h =
-        subst (Rejection (Err e) log report work) (sym (refused_leaves b frame budget log report work e.why e.place h))
+    look (Err refusal) h =
+        subst (Rejection (Err refusal) log report work) (sym (refused_leaves b frame budget log report work refusal.why refusal.place h))
         (record {
-          number = refusal_number e.why;
-          place = e.place;
+          number = refusal_number refusal.why;
+          place = refusal.place;
           refusal = refl;
           answered = refl;
           no_outcome = refl;

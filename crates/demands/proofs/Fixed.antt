@@ -11,7 +11,6 @@ use Rattle.calculus.specs.State.{fresh}
 use Rattle.calculus.specs.Run.{run}
 use Rattle.image.specs.Limits.{work_length, report_length}
 use Rattle.image.specs.Program.{to_tm}
-use Rattle.verdict.specs.Answers.{Verdict}
 use Rattle.verdict.specs.Verdicts.{verdict}
 use Rattle.verdict.proofs.Passed.{passed_iff}
 use Rattle.base_bytes.specs.Bytes.{over}

@@ -15,7 +15,6 @@ use Rattle.calculus.specs.State.{Given, fresh}
 use Rattle.calculus.specs.Run.{done, Ended, run}
 use Rattle.calculus.specs.Report.{outcome_of, report as reported}
 use Rattle.calculus.specs.Typing.{Policy}
-use Rattle.calculus.specs.Accepted.{Accepted}
 use Rattle.calculus_safety.proofs.Runs.{program_safe}
 use Rattle.calculus_noninterference.specs.Observe.{Highs}
 use Rattle.calculus_noninterference.specs.NoLowTakedown.{NoLowTakedown}

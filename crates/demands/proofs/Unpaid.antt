@@ -13,7 +13,7 @@ use Rattle.calculus.specs.declared.Outcome.{Outcome}
 use Rattle.calculus.specs.Combinators.{choose, cases}
 use Rattle.calculus.specs.Syntax.{Ty, Val, Tm, as_value}
 use Rattle.calculus.specs.State.{State, Given, fresh}
-use Rattle.calculus.specs.Answer.{Answer, reduct}
+use Rattle.calculus.specs.Answer.{Answer}
 use Rattle.calculus.specs.Place.{top}
 use Rattle.calculus.specs.Step.{step}
 use Rattle.calculus.specs.Run.{done, stopped, stuck, Ended, ended, after, unpaid, run}

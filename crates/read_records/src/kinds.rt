@@ -1,4 +1,6 @@
 // The numbers of the kinds of types and of terms (document 01, "The image").
+// Kept: (d) a kind is read from the image as a number, is an index into the table of kinds, and is tested as the number that
+// stands in a record; an enum of them would be turned back into that number at each of these uses.
 pub const UNIT_TYPE: u16 = 16;
 
 pub const TRUTH_TYPE: u16 = 17;

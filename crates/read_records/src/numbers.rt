@@ -187,7 +187,7 @@ pub fn type_descriptor(descriptors: &[u32], t: TypeNo) -> u32
     requires { t.0 < length descriptors.now }
     ensures { result ≡ get_or descriptors.now t.0 0 }
 {
-    descriptors[t.0 as usize]
+    descriptors[usize::from(t.0)]
 }
 
 // The term that an entry of a match names (document 02, card 6): 0 stands for anything, any other number is a term's plus 1.
@@ -203,30 +203,31 @@ pub fn descriptor_with(kind: u16, a: u16, b: u16, c: u16) -> u32
     requires { (kind < 256) × (a < 256) × (b < 256) × (c < 256) }
     ensures { result ≡ descriptor_of kind a b c }
 {
-    u32::from(kind) + 256 * u32::from(a) + 65536 * u32::from(b) + 16777216 * u32::from(c)
+    u32::from_le_bytes([kind as u8, a as u8, b as u8, c as u8])
 }
 
 // The parts of a descriptor.
+// Kept: (d) one function of the byte's place would have its contract choose among the four definitions by that place.
 pub fn descriptor_kind(k: u32) -> u16
     ensures { result ≡ descriptor_kind k }
 {
-    (k % 256) as u16
+    u16::from(k.to_le_bytes()[0])
 }
 
 pub fn descriptor_field0(k: u32) -> u16
     ensures { result ≡ descriptor_field0 k }
 {
-    (k / 256 % 256) as u16
+    u16::from(k.to_le_bytes()[1])
 }
 
 pub fn descriptor_field1(k: u32) -> u16
     ensures { result ≡ descriptor_field1 k }
 {
-    (k / 65536 % 256) as u16
+    u16::from(k.to_le_bytes()[2])
 }
 
 pub fn descriptor_field2(k: u32) -> u16
     ensures { result ≡ descriptor_field2 k }
 {
-    (k / 16777216) as u16
+    u16::from(k.to_le_bytes()[3])
 }

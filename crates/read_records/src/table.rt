@@ -3,6 +3,9 @@
 ghost use Rattle.std.specs.Prelude.{◌≡◌, ◌*◌, ◌≤◌, ◌<◌, eqb};
 ghost use Rattle.read_records.specs.Codes.{code_count, kind_codes, code_at, size_of, first_children_of, group_of, count_of, last_of, least_of, classes_of, section_of, first_of, Sized, times_in, children_in, entries_in};
 
+// Kept: (d) sections and classes are digits of the codes below, which are sums of constants: an enum's variant can stand in no
+// such sum.
+//
 // The sections.
 pub const DOMAINS: u32 = 1;
 
@@ -261,6 +264,9 @@ pub fn least_length(code: u32) -> usize
     (code % CHILDREN) as usize
 }
 
+// Kept: (d) the parts of a code, from here to the last one: a function of the part's place and width as constants would have each
+// caller write these two numbers where a name stands.
+//
 // How many children are among the first fields.
 pub fn first_children(code: u32) -> usize
     ensures { result ≡ first_children_of code }
