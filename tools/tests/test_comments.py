@@ -59,6 +59,8 @@ def stale_comments(root):
         stale += [f"{file}: {name}" for name in sorted(names - code - IN_COMMENTS)]
         for path in re.findall(r"`([a-z_]+(?:::\w+)+)`", comment):
             crate, *modules, name = path.split("::")
+            # A method of a type stands in the file of the type.
+            modules = [module for module in modules if module[0].islower()]
             source = root / "crates" / crate / "src" / f"{'/'.join(modules) or 'lib'}.rt"
             if not source.is_file() or not re.search(rf"\bfn {name}\b", source.read_text(encoding="utf-8")):
                 stale.append(f"{file}: {path}")

@@ -8,7 +8,6 @@ use Rattle.image.specs.Limits.{work_length, report_length}
 use Rattle.image.specs.Layout.{records_of}
 use Rattle.image.specs.Types.{root_type}
 use Rattle.image.specs.Program.{to_tm}
-use Rattle.verdict.specs.Answers.{Verdict}
 use Rattle.verdict.specs.Verdicts.{verdict}
 use Rattle.verdict.specs.Domains.{policy}
 use Rattle.verdict.proofs.Accept.{accepted_typed, accepted_plain, accepted_order}

@@ -4,7 +4,6 @@ use Rattle.calculus.specs.State.{Given, fresh}
 use Rattle.calculus.specs.Run.{Ended, run}
 use Rattle.image.specs.Layout.{records_of}
 use Rattle.image.specs.Program.{Program, program, to_tm}
-use Rattle.verdict.specs.Answers.{Verdict}
 use Rattle.verdict.specs.Verdicts.{verdict}
 
 abbrev pub program_of : List ℕ → Program

@@ -1,16 +1,13 @@
 -- Small laws: tests in a row, what a rule comes to, and what arithmetic gives.
 use Rattle.std.specs.Prelude.{Ok}
-use Prim.Native.Nat.{ℕ, zero, suc, ◌≤◌, ◌<◌}
-use native.Mathlib.Omega.{arith}
+use Prim.Native.Nat.{ℕ}
 use mathlib.Core.Path.{◌≡◌, refl, sym}
 use mathlib.Core.Bool.{Bool, true, false}
 use mathlib.Core.List.{List, [], ◌∷◌}
 use Rattle.image.specs.declared.Refusal.{Refusal}
 use Rattle.laws.specs.Tests.{all, first_fault}
-use Rattle.image.specs.Kinds.{TypeKind, type_row_of}
 use Rattle.laws.proofs.Booleans.{no_path}
 use Rattle.verdict.specs.Answers.{refused_at}
-use Rattle.verdict.specs.Rules.{op_gives}
 use Rattle.check_rules.specs.Judged.{judged}
 
 -- Tests in a row: of one alone, of one that holds before others, and of one that fails.
@@ -71,14 +68,3 @@ module _ (place : ℕ) where
   accepted true true false h k l = no_path (sym l)
   accepted true false d h k l = no_path (sym k)
   accepted false t d h k l = no_path (sym h)
-
--- Less and equal are the operations from 2 on.
-pub gives_number : (f : ℕ) → f < 2 → (type_row_of TypeKind.number).number ≡ (type_row_of (op_gives f)).number
-gives_number zero h = refl
-gives_number (suc zero) h = refl
-gives_number (suc (suc f)) h = absurd (omega arith)
-
-pub gives_truth : (f : ℕ) → 2 ≤ f → (type_row_of TypeKind.truth).number ≡ (type_row_of (op_gives f)).number
-gives_truth zero h = absurd (omega arith)
-gives_truth (suc zero) h = absurd (omega arith)
-gives_truth (suc (suc f)) h = refl

@@ -1,5 +1,5 @@
 // Refusal 10: the order of the domains, as sixteen rows of sixteen truths, and the first domain at fault in it.
-ghost use Rattle.std.specs.Prelude.{◌≡◌, ◌≤◌, ◌<◌, not, ◌&&◌, length};
+ghost use Rattle.std.specs.Prelude.{◌≡◌, ◌≤◌, ◌<◌, length};
 ghost use Rattle.image.specs.Limits.{domain_limit};
 ghost use Rattle.image.specs.Layout.{records_of};
 ghost use Rattle.verdict.specs.Domains.{bits};

@@ -24,7 +24,7 @@ use read_terms::terms::{
 use verdict::Verdict;
 
 // A fault is so many times a term's number, and the cause: refusals 13, 14 and 15 leave the remainders 1, 2 and 3.
-// Kept: (b) a `Result<(), Fault>` of a term and a cause takes six bytes, and comes back through memory; an answer through memory
+// Kept: (b) a `Result` whose error has a term and a cause takes six bytes, and comes back through memory; an answer through memory
 // at each term costs 6 % of the check (docs/changes/0046-call.md), and a number comes back in a register.
 pub const CAUSES: u64 = 4;
 

@@ -7,7 +7,7 @@ use Rattle.image.specs.Bytes.{words}
 use Rattle.image.specs.Kinds.{find}
 use Rattle.image.specs.Layout.{all_within, tests, walk, layout, records_of}
 use Rattle.image.specs.Types.{type_out, type_from, type_of}
-use Rattle.verdict.specs.Answers.{require_from, in_turn, Verdict, refused_at}
+use Rattle.verdict.specs.Answers.{require_from, in_turn, refused_at}
 use Rattle.verdict.specs.Domains.{bits, order, leq}
 use Rattle.verdict.specs.Order.{at_fault}
 use Rattle.verdict.specs.Shape.{count, uses, depths_from, depths, shape}

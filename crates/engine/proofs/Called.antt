@@ -6,7 +6,7 @@ use mathlib.Core.List.{List}
 use lib.ListN.{length}
 use Rattle.image.specs.declared.Refusal.{Refusal}
 use Rattle.image.specs.Limits.{work_length}
-use Rattle.verdict.specs.Answers.{Verdict, refused_at}
+use Rattle.verdict.specs.Answers.{refused_at}
 use Rattle.verdict.specs.Verdicts.{verdict}
 use Rattle.base_bytes.specs.Bytes.{cleared}
 use Rattle.call_spec.specs.declared.Answer.{Answer}

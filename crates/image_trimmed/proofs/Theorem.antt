@@ -12,7 +12,7 @@ use Rattle.image.specs.Layout.{Scan, layout, records_of}
 use Rattle.image.specs.Program.{program}
 use Rattle.laws.proofs.Booleans.{of_le}
 use Rattle.image.proofs.Laid.{layout_good, records_of_lem}
-use Rattle.verdict.specs.Answers.{require, Verdict, refused_at}
+use Rattle.verdict.specs.Answers.{require, refused_at}
 use Rattle.verdict.specs.Shape.{shape}
 use Rattle.verdict.specs.Check.{typing}
 use Rattle.verdict.specs.Verdicts.{laid_out_of, verdict}

@@ -18,7 +18,6 @@ use Rattle.laws.specs.Tests.{any_below}
 use Rattle.image.specs.Program.{Program, node, blank, program}
 use Rattle.image.proofs.Laid.{LayoutOk, layout_good, records_of_lem}
 use Rattle.image.proofs.LaidOut.{laid_iff}
-use Rattle.verdict.specs.Answers.{Verdict}
 use Rattle.verdict.specs.Domains.{bits, masks, order, leq, policy}
 use Rattle.verdict.specs.Order.{at_fault}
 use Rattle.verdict.specs.Shape.{Shaped}

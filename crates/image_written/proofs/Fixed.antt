@@ -15,7 +15,6 @@ use Rattle.image.specs.Types.{root_type}
 use Rattle.image.specs.Program.{Program, program}
 use Rattle.image.proofs.Laid.{LayoutOk, layout_good, image_kept}
 use Rattle.calculus.specs.Plain.{is_plain}
-use Rattle.verdict.specs.Answers.{Verdict}
 use Rattle.verdict.specs.Domains.{masks, policy}
 use Rattle.verdict.specs.WellTyped.{mainline, WellTyped, stated}
 use Rattle.verdict.specs.Verdicts.{verdict}

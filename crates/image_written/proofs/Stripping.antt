@@ -16,7 +16,6 @@ use Rattle.image.specs.Layout.{records_of}
 use Rattle.image.specs.Program.{Program, Programs, node, blank, end, more, assemble, low_body, program}
 use Rattle.laws.proofs.Booleans.{no_path}
 use Rattle.image.proofs.Bodies.{Owner, body_owner}
-use Rattle.verdict.specs.Answers.{Verdict}
 use Rattle.verdict.specs.Domains.{policy}
 use Rattle.verdict.specs.Settings.{Setting}
 use Rattle.verdict.specs.Verdicts.{verdict}

@@ -1,6 +1,6 @@
 // Domain numbers, type numbers and term numbers, which are never used for one another (document 01, "The image"), how many
 // there are of each, what the validator's tables hold of each, and the parts of a type's descriptor.
-ghost use Rattle.std.specs.Prelude.{ℕ, ◌≡◌, suc, ◌+◌, ◌*◌, ◌<◌, ◌≤◌, length, get_or, ltb};
+ghost use Rattle.std.specs.Prelude.{ℕ, ◌≡◌, suc, ◌+◌, ◌<◌, ◌≤◌, length, get_or, ltb};
 ghost use Rattle.image.specs.Limits.{term_limit};
 ghost use Rattle.read_records.specs.declared.numbers.Counts.{Counts};
 ghost use Rattle.read_records.specs.Counts.{no_records, with_domain, with_type, with_term, Few, few_domains, few_types, few_terms};

@@ -123,10 +123,6 @@ module _ (fs : List ℕ) where
       let e : j ≡ suc (suc (suc (j - 3))) = omega arith in
       ap (λ k. get_or (field_in fs 1 ∷ field_in fs 2 ∷ field_in fs 3 ∷ entry_terms fs) k 0) (sym e) ∙ ap (λ es. get_or es j 0) (sym (match_children fs))
 
--- All entries are left at first.
-pub at_first : (fs : List ℕ) (n : ℕ) → n ≡ entry_count fs → entry_terms fs ≡ entries_left fs first_entry n 0
-at_first fs n e = ap (λ m. entries_from fs (2 * first_entry) m) (sym e) ∙ all_left fs first_entry n
-
 -- The terms that the entries name are there.
 module _ (b fs : List ℕ) (N : Entries b fs) where
   left_there : (k j : ℕ) → j + k ≡ entry_count fs → (i : ℕ) → i < length (entries_left fs first_entry (entry_count fs) j) → IsTerm b (get_or (entries_left fs first_entry (entry_count fs) j) i 0)

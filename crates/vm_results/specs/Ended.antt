@@ -7,7 +7,6 @@ use Rattle.calculus.specs.Combinators.{choose}
 use Rattle.calculus.specs.Limits.{leaf_limit}
 use Rattle.calculus.specs.Report.{outcome_number, CellReport}
 use Rattle.image.specs.Limits.{domain_limit}
-use Rattle.verdict.specs.Answers.{Verdict}
 use Rattle.report.specs.declared.Ending.{Ending}
 use Rattle.report.specs.Written.{report_bytes}
 use Rattle.vm_machine.specs.declared.Regs.{Regs}

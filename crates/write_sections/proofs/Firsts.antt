@@ -4,7 +4,7 @@ use native.Mathlib.Omega.{arith}
 use mathlib.Core.Path.{◌≡◌, sym, ap, subst, ◌∙◌}
 use mathlib.Core.List.{List, [], ◌∷◌, ◌++◌, map, append-nil}
 use lib.ListN.{length, get_or, take, drop, length-append, length-map, take-append-drop}
-use lib.Seq.{take-suc, take-length, get_or-take, length-take-le}
+use lib.Seq.{take-suc, get_or-take, length-take-le}
 use Rattle.calculus.specs.Syntax.{Ty}
 use Rattle.image.specs.Kinds.{domain}
 use Rattle.image.specs.Layout.{records_of}
@@ -31,9 +31,6 @@ module _ (rs : List Record) where
 
   abbrev at : ℕ → Record
   at i = get_or rs i (record_of domain [])
-
-  pub firsts_all : firsts (length rs) ≡ image rs
-  firsts_all = ap (λ xs. image xs) (take-length rs)
 
   firsts_more : (i : ℕ) → i < length rs → firsts (i + 1) ≡ firsts i ++ bytes (at i)
   unfolding image

@@ -88,9 +88,6 @@ module _ {b : List ℕ} {n : ℕ} {places order : List ℕ} (E : Entries b n pla
             let y : eqb (get_or places t 0) no_place ≡ true = of_eq x in
             q ∙ sym (e ∙ rw y refl)
 
-    pub there_enter : has T (of t) ≡ true → T ≡ enter T (of t)
-    there_enter q = rw q refl
-
     pub there_entered : has T (of t) ≡ true → T ≡ entered T (parts_first (of t))
     there_entered q = sym (entered_there D T E.table (of t) q)
 

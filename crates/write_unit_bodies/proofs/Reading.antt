@@ -115,9 +115,6 @@ module _ {b ts ks : List ℕ} (T : Lent b ts ks) {n : ℕ} (l : IsTerm b n) wher
 
 -- No body yet; and one term more.
 module _ (L : Layout) (high : Dom → Bool) (b : List ℕ) where
-  pub unit_bodies_none : UnitBodies L high 0 b b
-  unit_bodies_none = record { same = refl; kept = λ j h. refl; units = λ n l. absurd (omega arith) }
-
   module _ (m : ℕ) (c : List ℕ) (I : UnitBodies L high m b c) where
     pub unit_bodies_stays : low_advice_or_lower L high m ≡ false → UnitBodies L high (m + 1) b c
     unit_bodies_stays q = record { same = I.same; kept = λ j h. I.kept j (λ n l w e. h n (omega arith) w e); units = told }
@@ -141,9 +138,3 @@ module _ (L : Layout) (high : Dom → Bool) (b : List ℕ) where
             go false r true s = let z : n ≡ m = eq_of s in no_path (sym (of_eq (ap (λ i. kind_byte L i) z)) ∙ r)
             go false r false s =
                 get_or-set_other c (kind_byte L m) (kind_byte L n) _ 0 (λ z. no_path (sym (of_eq z) ∙ r)) ∙ I.units n (omega (arith, differ n m s)) w
-
--- One byte more that is copied.
-pub copied_more : (xs c : List ℕ) (i : ℕ) → i < length c → ((k : ℕ) → k < i → get_or c k 0 ≡ get_or xs k 0) → (k : ℕ) → k < i + 1 → get_or (set c i (get_or xs i 0)) k 0 ≡ get_or xs k 0
-copied_more xs c i l h k m = by_test (eqb k i)
-    (λ r. let z : k ≡ i = eq_of r in subst (λ j. get_or (set c i (get_or xs i 0)) j 0 ≡ get_or xs j 0) (sym z) (get_or-set_same c i (get_or xs i 0) 0 l))
-    λ r. get_or-set_other c i k (get_or xs i 0) 0 (differ k i r) ∙ h k (omega (arith, differ k i r))

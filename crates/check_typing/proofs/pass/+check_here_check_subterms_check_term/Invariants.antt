@@ -2,7 +2,6 @@
 -- In a loop the children before child j pass, and the first places of the scope are kept.
 use Rattle.std.proofs.Common.{◌≡◌, ◌+◌, ◌*◌, length, take, Ok}
 use Rattle.image.specs.Kinds.{TermKind, term_row}
-use Rattle.verdict.specs.Answers.{Verdict}
 use Rattle.check_rules.specs.Scopes.{setting_in}
 use Rattle.read_terms.specs.Fields.{fields_of}
 use Rattle.check_typing.proofs.TermPass.{front}
