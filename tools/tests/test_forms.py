@@ -48,6 +48,7 @@ OTHER_MEANING = {
 
 # Where a table is indexed by something else than one of the three numbers.
 OTHER_INDEX = {
+    ("write_types", "enter_one", "order"): "the place behind those that are entered",
     ("check_layout", "put_type", "types"): "i is the number of the type t",
     ("check_layout", "put_type", "descriptors"): "i is the number of the type t",
     ("vm_passes", "build_code", "code"): "the word behind the terms'",

@@ -55,10 +55,8 @@ vm_passes: build_code 8, pass_down 7, surround_children 7
 write_fixed: write_checked 7
 write_image: write_whole 7
 write_program: write_term 7
-write_sections: write_type 7, write_types 8
+write_sections: write_type 7
 write_stripped: write_checked 9, write_copy 10
-write_terms: enter_term 8
-write_types: enter_type 7
 """
 
 # No branch or loop stands inside more than two others.
@@ -67,10 +65,10 @@ DEEPEST = 3
 # A number over this has a name, but in these functions. The length of an array is a literal in Rattle.
 LARGEST_BARE = 8
 NUMBERS_IN_PLACE = {
-    "the bytes of a number: powers of 256": "listing_lines: join long; report: put16 put32; vm_pass_up: number_word",
+    "the bytes of a number: powers of 256": "listing_lines: long; vm_pass_up: number_word",
     "the bits of a word: powers of 2, by the widths that stand beside": "read_records: child_count entry_count field_classes;"
         " check_typing: verdict_of; check_repeats: bit_of mix place_of word_of",
-    "a table: a number for each case": "image_refusals: refusal_number; answers_as_numbers: put_numbers; vm_decode: unary_move;"
+    "a table: a number for each case": "answers_as_numbers: put_numbers; vm_decode: unary_move;"
         " vm_dispatch: first_of follow other_first store_start; vm_super: called_on read_then stored tested",
     "decimal digits": "listing_lines: put_decimal; numerals: with_byte",
     "the ten bytes of the record that it writes": "report: put_head; vm_results: put_answer",

@@ -94,7 +94,6 @@ TABLES = {"vm_dispatch/begin.rt"}
 OTHER_CONSTANTS = {
     "check_repeats/keys.rt": {"RANGE"},
     "check_uses/children.rt": {"USED"},
-    "load/main.rt": {"MOST"},
     "read_records/kinds.rt": {"UNIT_TYPE"},
     "read_records/table.rt": {"CHILDREN", "GROUP", "LEAD", "LAST", "LEAST"},
     "report/fixed.rt": {"LOG"},
@@ -102,7 +101,6 @@ OTHER_CONSTANTS = {
     "vm_words/code.rt": {"CLASSES", "COUNTS"},
     "vm_words/value.rt": {"TAGS"},
     "watch/conformance.rt": {"FRAME_LENGTH", "LOG_LENGTH"},
-    "watch/stored.rt": {"MOST_BUDGET"},
     "write_load/lib.rt": {"OUTPUT_LENGTH"},
 }
 
