@@ -137,12 +137,17 @@ def namesakes(all_sources):
 
 # Point 3.
 
+def blocks(body, opening):
+    """Each place where a block opens so, and what is in the block, with its brackets."""
+    for found in re.finditer(opening, body):
+        yield found, body[found.end() - 1:closing(body, found.end() - 1)]
+
+
 def counted_loops(all_sources):
     """Loops over an index that is counted by hand."""
     for source in all_sources:
         for item in source.functions:
-            for found in re.finditer(r"\bwhile ([^{]*)\{", item.body):
-                inside = item.body[found.start():closing(item.body, found.end() - 1)]
+            for found, inside in blocks(item.body, r"\bwhile ([^{]*)\{"):
                 names = map(re.escape, re.findall(r"[a-z_][\w.]*", found[1]))
                 if any(re.search(rf"\b{name} (?:[+-]= 1|= {name} [+-] 1);", inside) for name in names):
                     yield source, item.at(found.start()), f"{item.name}: while {found[1].strip()}"
@@ -180,8 +185,7 @@ def copies(all_sources):
     """A struct put together of the fields of another, two of them and more by their own names; `x: x`."""
     for source in all_sources:
         for item in source.functions:
-            for found in re.finditer(r"\b([A-Z]\w*) \{", item.body):
-                inside = item.body[found.end():closing(item.body, found.end() - 1)]
+            for found, inside in blocks(item.body, r"\b([A-Z]\w*) \{"):
                 same = re.findall(r"(?:^|[{,\n])\s*(\w+): (\w+)\.\1(?=,|\s*\})", inside)
                 doubled = re.findall(r"(?:^|[{,\n])\s*(\w+): \1(?=,|\s*\})", inside)
                 if len(same) >= 2 or doubled:
@@ -276,8 +280,7 @@ def switches(all_sources):
     """A match over numbers of three arms and more, a chain of tests of one name; a truth that says which step to run."""
     for source in all_sources:
         for item in source.functions:
-            for found in re.finditer(r"\bmatch ([^{]*)\{", item.body):
-                inside = item.body[found.start():closing(item.body, found.end() - 1)]
+            for found, inside in blocks(item.body, r"\bmatch ([^{]*)\{"):
                 arms = re.findall(r"^\s*(?:\d+|(?:\w+::)*[A-Z][A-Z_]+)(?: \|[^=]*)? =>", inside, re.M)
                 if len(arms) >= 3:
                     yield source, item.at(found.start()), f"{item.name}: match {found[1].strip()}, {len(arms)} numbers"
