@@ -57,6 +57,8 @@ write_image: write_whole 7
 write_program: write_term 7
 write_sections: write_type 7
 write_stripped: write_checked 9, write_copy 10
+write_terms: enter_term 8
+write_types: enter_type 7
 """
 
 # No branch or loop stands inside more than two others.
