@@ -25,7 +25,7 @@ LONG = {
     ("check_layout", "scan_with"): (42, "the loop over the records, which keeps the walk and the eight tables"),
     ("check_scopes", "child_setting"): (42, "an arm for each kind that has a child under other variables or at another domain"),
     ("check_typing", "check_subterms"): (52, "nine arguments of two calls, a line each"),
-    ("vm_execute", "performed"): (42, "an arm for each act"),
+    ("vm_execute", "performed"): (41, "an arm for each act"),
     ("vm_dispatch", "first_of"): (147, "an arm for each class, so that one jump leads to what is to be done"),
     ("vm_dispatch", "other_first"): (150, "the same; apart, since the compiler takes an arm among more than 50 for a rare one"),
     ("vm_pass_up", "word_of"): (78, "an arm for each kind, whose name stands in it"),
