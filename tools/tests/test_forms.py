@@ -25,7 +25,7 @@ NO_FIELD_READ = {
 }
 
 # Tables that domain, type or term numbers index.
-TABLES = ("code", "dispatch", "terms", "types", "descriptors", "doms", "masks", "leaves", "places", "order", "marks", "depths")
+TABLES = ("code", "dispatch", "terms", "types", "descriptors", "doms", "masks", "leaves", "places", "order", "marks", "depths", "offsets")
 
 # Parameters that are one of the three numbers, by name.
 NUMBERS = {
@@ -163,8 +163,20 @@ def bare_numbers(root):
                 if f.parameters.get(name, "") in ("u16", "u64", "usize") and (f.crate, f.name, name) not in OTHER_MEANING:
                     faults.append(f"{f}: {name}: {f.parameters[name]} in place of {struct}")
         for table, index in re.findall(r"\b(%s)\[([^\]]*)\]" % "|".join(TABLES), f.body):
-            if not re.fullmatch(r"\w+\.0 as usize|usize::from\(\w+\.0\)", index) and ".." not in index and (f.crate, f.name, table) not in OTHER_INDEX:
+            if not re.fullmatch(r"\w+\.0 as usize|usize::from\(\w+\.(?:0|number\(\))\)", index) and ".." not in index and (f.crate, f.name, table) not in OTHER_INDEX:
                 faults.append(f"{f}: {table}[{index}]")
+    return faults
+
+
+def tables_of_any_number(root):
+    """Public functions that take a table beside any of the three numbers: each table has functions that take its own number."""
+    faults = []
+    for path in sorted(pathlib.Path(root).glob("crates/*/src/**/*.rt")):
+        text = without_comments(path.read_text(encoding="utf-8"))
+        for match in re.finditer(r"\bpub fn (\w+)<[^>]*?\b(\w+): Numbered\b[^>]*>\(", text):
+            parameters = text[match.end():closing(text, match.end() - 1, "()") - 1]
+            if re.search(rf": {match[2]}\b", parameters) and re.search(r": &(mut )?\[", parameters):
+                faults.append(f"{path.relative_to(root).parts[1]}/{path.name}: {match[1]}: a table by a number of any section")
     return faults
 
 
@@ -175,7 +187,7 @@ def writers_of_the_report(root):
     return faults if len(writers) == 1 else faults + [f"{len(writers)} functions write the result's leaves"]
 
 
-CHECKS = (fields_read_outside_the_reader, leaves_judged_in_a_parent, walks_without_the_reader, bare_numbers, writers_of_the_report)
+CHECKS = (fields_read_outside_the_reader, leaves_judged_in_a_parent, walks_without_the_reader, bare_numbers, tables_of_any_number, writers_of_the_report)
 
 
 class Forms(unittest.TestCase):
@@ -191,6 +203,7 @@ GIVEN_UP = {
     leaves_judged_in_a_parent: ("check_typing/src/pass.rt", "fn f() { for j in 0..k { let e = child_of(j); check_leaf(e); } }", 2),
     walks_without_the_reader: ("check_layout/src/lib.rt", "fn scan_with(image: &[u8]) { let mut at = 0; }", 4),
     bare_numbers: ("vm_words/src/lib.rt", "fn f(term: u16, n: usize) -> u64 { code[n] }", 2),
+    tables_of_any_number: ("read_records/src/numbers.rt", "pub fn f<N: Numbered>(offsets: &[u16], n: N) -> usize { g(offsets, n) }", 1),
     writers_of_the_report: ("vm_results/src/reports.rt", "fn f(r: &mut [u8]) { put_leaf(r); } fn g() { put_leaves(r); }", 2),
 }
 

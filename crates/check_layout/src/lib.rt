@@ -31,7 +31,7 @@ fn enter_term(
     ensures { EntersTerm result fields.now code at counts terms.old marks.old terms.new marks.new }
 {
     term_fault(fields, code, counts, marks)?;
-    tables::put(at, counts.next::<TermNo>(), terms);
+    tables::put_term(at, counts.next::<TermNo>(), terms);
     Ok(counts.with_one::<TermNo>())
 }
 
@@ -76,7 +76,7 @@ fn enter(
         )?;
         return Ok(counts.with_one::<TypeNo>());
     }
-    tables::put(at, counts.next::<DomainNo>(), doms);
+    tables::put_domain(at, counts.next::<DomainNo>(), doms);
     Ok(counts.with_one::<DomainNo>())
 }
 

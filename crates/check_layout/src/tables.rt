@@ -7,14 +7,29 @@ ghost use Rattle.check_repeats.specs.Keys.{Filters};
 ghost use Rattle.check_layout.specs.Tables.{PutType};
 
 use image::Refusal;
-use read_records::numbers::{Numbered, TypeNo};
+use read_records::numbers::{DomainNo, Numbered, TermNo, TypeNo};
 
-// The offset of a record, by its number.
-pub fn put<N: Numbered>(at: usize, n: N, offsets: &mut [u16])
+// The offset of a record, by its number: for the two functions below alone, each of which takes the table and the number of one
+// section.
+fn put<N: Numbered>(at: usize, n: N, offsets: &mut [u16])
     requires { (at < 65536) × (N.number n < length offsets.old) }
     ensures { offsets.new ≡ set offsets.old (N.number n) at }
 {
     offsets[usize::from(n.number())] = at as u16;
+}
+
+pub fn put_domain(at: usize, d: DomainNo, doms: &mut [u16])
+    requires { (at < 65536) × (d.0 < length doms.old) }
+    ensures { doms.new ≡ set doms.old d.0 at }
+{
+    put(at, d, doms)
+}
+
+pub fn put_term(at: usize, n: TermNo, terms: &mut [u16])
+    requires { (at < 65536) × (n.0 < length terms.old) }
+    ensures { terms.new ≡ set terms.old n.0 at }
+{
+    put(at, n, terms)
 }
 
 // 8, and the offset, the descriptor and the key of the type t, which has these fields. A type whose key is none of the earlier

@@ -6,7 +6,7 @@ ghost use Rattle.check_repeats.specs.NewTypes.{same_fields, equal_type, new_type
 
 use read_records::fields::field;
 use read_records::kinds;
-use read_records::numbers::{TypeNo, descriptor_kind, offset_of, type_descriptor};
+use read_records::numbers::{TypeNo, descriptor_kind, type_descriptor, type_offset};
 use read_records::reader::fields_at;
 
 // The fields of two records have the same length and the same numbers.
@@ -40,7 +40,7 @@ fn is_equal_type(
         return false;
     }
     if descriptor_kind(descriptor) == kinds::OBJECT_TYPE {
-        return same_fields(fields, fields_at(image, offset_of(types, u)));
+        return same_fields(fields, fields_at(image, type_offset(types, u)));
     }
     true
 }

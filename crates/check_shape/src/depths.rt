@@ -4,7 +4,7 @@ ghost use Rattle.check_shape.specs.Depths.{deep_from};
 
 use check_uses::marks::mark_of;
 use image::{DEPTH_LIMIT, Refusal, Refused};
-use read_records::numbers::{TermNo, offset_of};
+use read_records::numbers::{TermNo, term_offset};
 use verdict::Verdict;
 
 pub const DEEPEST: u8 = DEPTH_LIMIT as u8;
@@ -21,7 +21,7 @@ pub fn first_deep(depths: &[u8], terms: &[u16], end: TermNo) -> Verdict
         if DEEPEST < mark_of(depths, n) {
             return Err(Refused {
                 why: Refusal::TooDeep,
-                place: offset_of(terms, n),
+                place: term_offset(terms, n),
             });
         }
     }

@@ -15,7 +15,7 @@ ghost use Rattle.check_shape.specs.Checks.{no_term_deep};
 use crate::depths::TOO_DEEP;
 use check_uses::marks::{mark_of, one_more, set_mark};
 use image::TERM_LIMIT;
-use read_records::numbers::{TermNo, offset_of};
+use read_records::numbers::{TermNo, term_offset};
 use verdict::Verdict;
 
 // The depth d for each child side by side in a term's fields.
@@ -69,7 +69,7 @@ fn mark_term(image: &[u8], kinds: &[u32], terms: &[u16], n: TermNo, depths: &mut
     requires { (kinds.now ≡ kind_codes) × Terms image.now terms.now × (length depths.old ≡ length terms.now) × (n.0 < length terms.now) }
     ensures { depths.new ≡ set_all (children_of_term image.now (get_or terms.now n.0 0)) (depth_below depths.old n.0) depths.old }
 {
-    let at = offset_of(terms, n);
+    let at = term_offset(terms, n);
     let code = read_records::table::known_code(kinds, read_records::words::kind_at(image, at));
     let d = one_more(TOO_DEEP, mark_of(depths, n));
     let fields = read_records::reader::fields_at(image, at);

@@ -14,7 +14,7 @@ ghost use Rattle.check_shape.specs.Counted.{Counted};
 use check_uses::marks::mark_of;
 use check_uses::uses::first_misused;
 use image::{Refusal, Refused};
-use read_records::numbers::{Counts, TermNo, offset_of};
+use read_records::numbers::{Counts, TermNo, term_offset};
 use verdict::Verdict;
 
 pub mod depths;
@@ -38,7 +38,7 @@ fn check_terms(image: &[u8], kinds: &[u32], terms: &[u16], marks: &[u8]) -> Verd
     if first.0 < root.0 {
         return Err(Refused {
             why: Refusal::UseCount,
-            place: offset_of(terms, first),
+            place: term_offset(terms, first),
         });
     }
     if mark_of(marks, root) <= depths::DEEPEST {

@@ -9,7 +9,7 @@ ghost use Rattle.check_shape.specs.Records.{Domains};
 ghost use Rattle.check_shape.specs.Checks.{domains_ordered};
 
 use image::{DOMAIN_LIMIT, Refusal, Refused};
-use read_records::numbers::{DomainNo, offset_of};
+use read_records::numbers::{DomainNo, domain_offset};
 use verdict::Verdict;
 
 // The bits of a mask, lowest first.
@@ -40,7 +40,10 @@ pub fn order_of(image: &[u8], doms: &[u16]) -> [[bool; DOMAIN_LIMIT]; DOMAIN_LIM
 {
     let mut o = [[false; DOMAIN_LIMIT]; DOMAIN_LIMIT];
     for d in 0..doms.len() {
-        let fields = read_records::reader::fields_at(image, offset_of(doms, DomainNo(d as u16)));
+        let fields = read_records::reader::fields_at(
+            image,
+            domain_offset(doms, DomainNo(d as u16)),
+        );
         o[d] = row_of(mask_of(fields));
     }
     o
@@ -103,7 +106,7 @@ fn first_unordered(o: [[bool; DOMAIN_LIMIT]; DOMAIN_LIMIT], doms: &[u16]) -> Ver
         if at_fault(o, doms.len(), next) {
             return Err(Refused {
                 why: Refusal::DomainOrder,
-                place: offset_of(doms, next),
+                place: domain_offset(doms, next),
             });
         }
     }

@@ -26,6 +26,13 @@ fn used_mark(mark: u8) -> u8
     if mark < USED { mark + USED } else { AGAIN }
 }
 
+// The greater of two heights.
+fn higher(h: u32, g: u32) -> u32
+    ensures { result ≡ max h g }
+{
+    h.max(g)
+}
+
 // One use more of the term e. The greatest height so far is h; the greater of it and the term's. It is handed from child to child
 // as a word, since a byte would be widened again for each of them.
 fn use_child(marks: &mut [u8], e: TermNo, h: u32) -> u32
@@ -34,7 +41,7 @@ fn use_child(marks: &mut [u8], e: TermNo, h: u32) -> u32
 {
     let mark = mark_of(marks, e);
     set_mark(marks, e, used_mark(mark));
-    h.max(u32::from(mark % USED))
+    higher(h, u32::from(mark % USED))
 }
 
 // The height of the term n, whose children have at most the height h.

@@ -174,12 +174,37 @@ impl Numbered for TermNo {
     }
 }
 
-// The offset of the record of that number, by the table of its section's offsets.
-pub fn offset_of<N: Numbered>(offsets: &[u16], n: N) -> usize
+// The offset of the record of that number, by the table of its section's offsets: for the three functions below alone, each of
+// which takes the table and the number of one section.
+fn offset_of<N: Numbered>(offsets: &[u16], n: N) -> usize
     requires { N.number n < length offsets.now }
     ensures { result ≡ get_or offsets.now (N.number n) 0 }
 {
     usize::from(offsets[usize::from(n.number())])
+}
+
+// The offset of a domain's record.
+pub fn domain_offset(doms: &[u16], d: DomainNo) -> usize
+    requires { d.0 < length doms.now }
+    ensures { result ≡ get_or doms.now d.0 0 }
+{
+    offset_of(doms, d)
+}
+
+// The offset of a type's record.
+pub fn type_offset(types: &[u16], t: TypeNo) -> usize
+    requires { t.0 < length types.now }
+    ensures { result ≡ get_or types.now t.0 0 }
+{
+    offset_of(types, t)
+}
+
+// The offset of a term's record.
+pub fn term_offset(terms: &[u16], n: TermNo) -> usize
+    requires { n.0 < length terms.now }
+    ensures { result ≡ get_or terms.now n.0 0 }
+{
+    offset_of(terms, n)
 }
 
 // The descriptor of a type.

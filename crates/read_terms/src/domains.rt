@@ -41,7 +41,7 @@ fn mask_of(image: &[u8], doms: &[u16], d: DomainNo) -> u16
     requires { Domains image.now doms.now × (d.0 < length (records_of image.now).domains) }
     ensures { result ≡ get_or (masks (records_of image.now)) d.0 0 }
 {
-    let at = read_records::numbers::offset_of(doms, d);
+    let at = read_records::numbers::domain_offset(doms, d);
     read_records::words::word(read_records::reader::fields_at(image, at), 0)
 }
 

@@ -19,7 +19,7 @@ pub fn term_place(image: &[u8], terms: &[u16], n: TermNo) -> usize
     requires { Terms image.now terms.now × IsTerm image.now n.0 }
     ensures { (result ≡ term_place (records_of image.now) n.0) × (result + 5 < length image.now) }
 {
-    read_records::numbers::offset_of(terms, n)
+    read_records::numbers::term_offset(terms, n)
 }
 
 // The number of its kind.

@@ -9,7 +9,7 @@ ghost use Rattle.read_terms.specs.Methods.{type_fields_of, method_in};
 
 use read_records::fields::field_as;
 use read_records::kinds::OBJECT_TYPE;
-use read_records::numbers::{DomainNo, TypeNo, offset_of};
+use read_records::numbers::{DomainNo, TypeNo, type_offset};
 use read_records::reader::fields_at;
 use read_records::words::kind_at;
 
@@ -18,7 +18,7 @@ pub fn type_kind(image: &[u8], types: &[u16], t: TypeNo) -> u16
     requires { TypeOffsets image.now types.now × IsType image.now t.0 }
     ensures { result ≡ number_at image.now (type_place (records_of image.now) t.0) }
 {
-    kind_at(image, offset_of(types, t))
+    kind_at(image, type_offset(types, t))
 }
 
 // Its fields.
@@ -26,7 +26,7 @@ pub fn type_fields<'a>(image: &'a [u8], types: &[u16], t: TypeNo) -> &'a [u8]
     requires { TypeOffsets image.now types.now × IsType image.now t.0 }
     ensures { result.now ≡ type_fields_of image.now t.0 }
 {
-    fields_at(image, offset_of(types, t))
+    fields_at(image, type_offset(types, t))
 }
 
 // A method takes so many bytes: two fields.

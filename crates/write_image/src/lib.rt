@@ -56,12 +56,21 @@ pub fn write_whole(
 {
     let root = root_of(counts);
     let mut table = TypeTable::empty();
-    enter_term(image, codes, types, terms, &mut table, root);
+    table.count = enter_term(
+        image,
+        codes,
+        types,
+        terms,
+        &mut table.places,
+        &mut table.order,
+        table.count,
+        root,
+    );
     let behind_domains = keep_domains(image, doms, counts.domains, out);
     let behind_types = write_types(image, codes, types, &table, out, behind_domains);
     let start = Done {
         at: behind_types,
         terms: 0,
     };
-    write_term(image, codes, terms, &table, out, start, root).at
+    write_term(image, codes, terms, &table.places, out, start, root).at
 }

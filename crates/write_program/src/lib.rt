@@ -14,7 +14,7 @@ use read_records::numbers::TermNo;
 use read_terms::terms::{term_fields, term_kind};
 use write_fields::{Fields, as_field, child_of};
 use write_records::{Done, FIELD_LIMIT};
-use write_types::TypeTable;
+use write_types::kept_number;
 
 // A term and those below it, written behind what is done: its children, left to right, then the term itself. A field that
 // names a child has the number of the last term that was written then.
@@ -22,13 +22,13 @@ pub fn write_term(
     image: &[u8],
     codes: &[u32],
     terms: &[u16],
-    table: &TypeTable,
+    places: &[u16],
     out: &mut [u8],
     done: Done,
     e: TermNo,
 ) -> Done
-    requires { (codes.now ≡ kind_codes) × Terms image.now terms.now × IsTerm image.now e.0 × (length (records_of image.now).types ≤ length table.now.places) × Capacity image.now e.0 done (length out.old) }
-    ensures { (result.at ≡ (behind image.now e.0 done).at) × (result.terms ≡ (behind image.now e.0 done).terms) × Wrote image.now table.now.places e.0 done out.old out.new }
+    requires { (codes.now ≡ kind_codes) × Terms image.now terms.now × IsTerm image.now e.0 × (length (records_of image.now).types ≤ length places.now) × Capacity image.now e.0 done (length out.old) }
+    ensures { (result.at ≡ (behind image.now e.0 done).at) × (result.terms ≡ (behind image.now e.0 done).terms) × Wrote image.now places.now e.0 done out.old out.new }
 {
     let fields = term_fields(image, terms, e);
     let kind = term_kind(image, terms, e);
@@ -40,10 +40,10 @@ pub fn write_term(
         let v = field(fields, i);
         numbers[i] = match child_of(class, v) {
             Some(child) => {
-                d = write_term(image, codes, terms, table, out, d, child);
+                d = write_term(image, codes, terms, places, out, d, child);
                 as_field(class, d.last_term())
             }
-            None => table.kept_number(class, v),
+            None => kept_number(places, class, v),
         };
     }
     d.put_term(out, kind, &numbers[..known.count])

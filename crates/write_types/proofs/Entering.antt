@@ -114,7 +114,7 @@ module _ {b : List ℕ} {n : ℕ} {places order : List ℕ} (E : Entries b n pla
           let g = laid_good.few_types in
           omega arith
 
-      capacity : n < length order
+      pub capacity : n < length order
       capacity =
           let r = room in
           let o = E.enough_order in

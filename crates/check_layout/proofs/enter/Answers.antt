@@ -121,8 +121,8 @@ returns-then-section_of-eq-TYPES c =
     let s = typed e c.section_of.ensures c.if-section_of-eq-TYPES.true in
     record { entered = λ q R. rw c.with_one.ensures (type_entry R u p s (described e c.descriptor_of-descriptor.ensures) (rw c.next.ensures at c.put_type.ensures) c.in_ok-put_type.was) }
 
-pub put-requires : goal.put-requires
-put-requires c =
+pub put_domain-requires : goal.put_domain-requires
+put_domain-requires c =
     let a = c.args in
     let e = c.code_of-code.ensures in
     let R = c.requires.is in
@@ -140,4 +140,4 @@ returns c =
     let e = c.code_of-code.ensures in
     let u : code_at c.args.kind ≡ 0 → ⊥ = λ z. c.if-code-eq0.false (e ∙ z) in
     let p = told _ _ c.in_ok-first_fault.was e c.first_fault.ensures in
-    record { entered = λ q R. rw (c.with_one-2.ensures, c.put.ensures, c.next-2.ensures) (domain_entry R u p (no_term e c.is_term.ensures c.if-is_term.false) (untyped e c.section_of.ensures c.if-section_of-eq-TYPES.false)) }
+    record { entered = λ q R. rw (c.with_one-2.ensures, c.put_domain.ensures, c.next-2.ensures) (domain_entry R u p (no_term e c.is_term.ensures c.if-is_term.false) (untyped e c.section_of.ensures c.if-section_of-eq-TYPES.false)) }

@@ -12,7 +12,7 @@ first_misused-first-requires c = let p = c.requires in let l = enough_marks _ _ 
 pub returns-then-first-root : goal.returns-then-first-root
 returns-then-first-root c =
     let p = c.requires in
-    ap (λ o. refused_at Refusal.UseCount o) c.offset_of.ensures ∙ sym (refused_first _ _ _ p.1 p.3 _ p.2 c.first_misused-first.ensures (omega arith))
+    ap (λ o. refused_at Refusal.UseCount o) c.term_offset.ensures ∙ sym (refused_first _ _ _ p.1 p.3 _ p.2 c.first_misused-first.ensures (omega arith))
 
 pub mark_of-requires : goal.mark_of-requires
 mark_of-requires c =

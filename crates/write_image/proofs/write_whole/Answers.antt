@@ -54,7 +54,7 @@ write_types-behind_types-requires c =
     let k = c.requires.4.terms in
     let r : c.root_of-root.result.0 ≡ root_of (records_of b) = c.root_of-root.ensures ∙ ap (λ q. q - 1) k in
     let N = c.enter_term in
-    let E : entries_of b N.new.table.count c.enter_term.new.table.order ≡ table_of (program (records_of b)) = all_entries b A m N.new.table.count c.enter_term.new.table.order (N.ensures.1 ∙ ap (λ T. entered (types_of b T) (types_in (tree_at (records_of b) c.root_of-root.result.0))) c.empty-table.ensures ∙ ap (λ j. entered [] (types_in (tree_at (records_of b) j))) r) in
+    let E : entries_of b N.result c.enter_term.new.order ≡ table_of (program (records_of b)) = all_entries b A m N.result c.enter_term.new.order (N.ensures.1 ∙ ap (λ T. entered (types_of b T) (types_in (tree_at (records_of b) c.root_of-root.result.0))) c.empty-table.ensures ∙ ap (λ j. entered [] (types_in (tree_at (records_of b) j))) r) in
     let w = c.keep_domains-behind_domains in
     let d = c.keep_domains-behind_domains.ensures.0 in
     let o = c.keep_domains-behind_domains.auto.out in
@@ -70,7 +70,7 @@ write_term-requires c =
     let k = c.requires.4.terms in
     let r : c.root_of-root.result.0 ≡ root_of (records_of b) = c.root_of-root.ensures ∙ ap (λ q. q - 1) k in
     let N = c.enter_term in
-    let E : entries_of b N.new.table.count c.enter_term.new.table.order ≡ table_of (program (records_of b)) = all_entries b A m N.new.table.count c.enter_term.new.table.order (N.ensures.1 ∙ ap (λ T. entered (types_of b T) (types_in (tree_at (records_of b) c.root_of-root.result.0))) c.empty-table.ensures ∙ ap (λ j. entered [] (types_in (tree_at (records_of b) j))) r) in
+    let E : entries_of b N.result c.enter_term.new.order ≡ table_of (program (records_of b)) = all_entries b A m N.result c.enter_term.new.order (N.ensures.1 ∙ ap (λ T. entered (types_of b T) (types_in (tree_at (records_of b) c.root_of-root.result.0))) c.empty-table.ensures ∙ ap (λ j. entered [] (types_in (tree_at (records_of b) j))) r) in
     let w = c.keep_domains-behind_domains in
     let v = c.write_types-behind_types in
     let d = c.keep_domains-behind_domains.ensures.0 in
@@ -88,15 +88,15 @@ returns c =
     let k = c.requires.4.terms in
     let r : c.root_of-root.result.0 ≡ root_of (records_of b) = c.root_of-root.ensures ∙ ap (λ q. q - 1) k in
     let N = c.enter_term in
-    let E : entries_of b N.new.table.count c.enter_term.new.table.order ≡ table_of (program (records_of b)) = all_entries b A m N.new.table.count c.enter_term.new.table.order (N.ensures.1 ∙ ap (λ T. entered (types_of b T) (types_in (tree_at (records_of b) c.root_of-root.result.0))) c.empty-table.ensures ∙ ap (λ j. entered [] (types_in (tree_at (records_of b) j))) r) in
+    let E : entries_of b N.result c.enter_term.new.order ≡ table_of (program (records_of b)) = all_entries b A m N.result c.enter_term.new.order (N.ensures.1 ∙ ap (λ T. entered (types_of b T) (types_in (tree_at (records_of b) c.root_of-root.result.0))) c.empty-table.ensures ∙ ap (λ j. entered [] (types_in (tree_at (records_of b) j))) r) in
     let w = c.keep_domains-behind_domains in
     let v = c.write_types-behind_types in
     let u = c.write_term in
     let d = c.keep_domains-behind_domains.ensures.0 in
     let l = ap (λ X. length (type_bytes X)) E in
     let e = c.write_types-behind_types.ensures.0 in
-    let g = v.ensures.1 ∙ ap (λ q. over q (type_bytes (entries_of b N.new.table.count c.enter_term.new.table.order)) c.keep_domains-behind_domains.new.out) d ∙ ap (λ X. over (length (domain_bytes (masks (records_of b)))) (type_bytes X) c.keep_domains-behind_domains.new.out) E in
-    let P = subst (λ X. Placed b c.enter_term.new.table.places X) E (entries_placed N.ensures.0) in
-    let W = subst (λ j. Wrote b c.enter_term.new.table.places j (record { at = v.result; terms = 0 }) c.write_types-behind_types.new.out c.write_term.new.out) r u.ensures.2 in
+    let g = v.ensures.1 ∙ ap (λ q. over q (type_bytes (entries_of b N.result c.enter_term.new.order)) c.keep_domains-behind_domains.new.out) d ∙ ap (λ X. over (length (domain_bytes (masks (records_of b)))) (type_bytes X) c.keep_domains-behind_domains.new.out) E in
+    let P = subst (λ X. Placed b c.enter_term.new.places X) E (entries_placed N.ensures.0) in
+    let W = subst (λ j. Wrote b c.enter_term.new.places j (record { at = v.result; terms = 0 }) c.write_types-behind_types.new.out c.write_term.new.out) r u.ensures.2 in
     let z = whole b A m c.args.out.now (record { at = v.result; terms = 0 }) c.requires.5.capacity P (omega arith) refl w.ensures.1 g W in
     (u.ensures.0 ∙ ap (λ j. v.result + weight term_size (tree_at (records_of b) j)) r ∙ z.0, z.1)

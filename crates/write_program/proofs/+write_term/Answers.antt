@@ -21,7 +21,7 @@ pub known-known-requires : goal.known-known-requires
 known-known-requires t c = (c.requires.0, rw (c.term_kind-kind.ensures, c.term_fields-fields.ensures) (known c.requires.1 c.requires.2))
 
 pub loop-i-init : goal.loop-i-init
-loop-i-init t c = (refl, λ e h r R. (come_none c.requires.1 h c.args.done, begun_none c.requires.1 h c.args.table.now.places c.args.done c.args.out.now _))
+loop-i-init t c = (refl, λ e h r R. (come_none c.requires.1 h c.args.done, begun_none c.requires.1 h c.args.places.now c.args.done c.args.out.now _))
 
 pub class_of-class-requires : goal.class_of-class-requires
 class_of-class-requires t c = (read c.requires.1 c.requires.2 c.term_kind-kind.ensures c.term_fields-fields.ensures c.known-known.ensures).asks c.loop-i.i (search rules)
@@ -114,7 +114,7 @@ loop-i-preserved t c =
                 let v = R.number i.i l number in
                 let I = i.invariant.1 e h capacity' R in (
                   come_child c.requires.1 h i.i (omega arith) a v q I.0 (r.ensures.0 ∙ ap (λ j. i.d.at + weight term_size (tree_at (records_of c.args.image.now) j)) s) y,
-                  begun_child c.requires.1 h i.i (omega arith) a v q (omega arith) capacity' I.0 I.1 (subst (λ j. Wrote c.args.image.now c.args.table.now.places j i.d i.out r.new.out) s r.ensures.2)
+                  begun_child c.requires.1 h i.i (omega arith) a v q (omega arith) capacity' I.0 I.1 (subst (λ j. Wrote c.args.image.now c.args.places.now j i.d i.out r.new.out) s r.ensures.2)
                       (w.as_field.ensures ∙ ap (λ m. as_field c.class_of-class.result m) w.last_term.ensures ∙ ap (λ z. as_field c.class_of-class.result (z - 1)) y),
                 ),
           )
@@ -169,5 +169,5 @@ returns t c =
     let z = w.0 in
     let k = length-take-le c.known-known.result.count i.numbers (omega arith) in
     let C = subst (λ j. Come c.args.image.now c.args.e.0 j c.args.done i.d) g I.0 in
-    let B = subst (λ j. Begun c.args.image.now c.args.table.now.places c.args.e.0 c.args.done j c.args.out.now i.out i.numbers) g I.1 in
+    let B = subst (λ j. Begun c.args.image.now c.args.places.now c.args.e.0 c.args.done j c.args.out.now i.out i.numbers) g I.1 in
     (omega arith, w.1 ∙ p.1, begun_all c.requires.1 c.requires.2 c.known-known.result.count c.term_kind-kind.result n (omega arith) c.term_kind-kind.ensures c.requires.4 C B w.2)

@@ -19,4 +19,4 @@ abbrev pub invariant-loop-i : goal.invariant-loop-i
 invariant-loop-i l =
     (length l.numbers ≡ field_limit)
     × ((e : ℕ) → IsTerm l.image e → Capacity l.image e l.initial.d (length l.initial.out) → RecordRead l.fields l.known.code l.known.count (sorts_at (records_of l.image) e) (numbers_of (records_of l.image) e)
-    → Come l.image e l.i l.initial.d l.d × Begun l.image l.table.places e l.initial.d l.i l.initial.out l.out l.numbers)
+    → Come l.image e l.i l.initial.d l.d × Begun l.image l.places e l.initial.d l.i l.initial.out l.out l.numbers)

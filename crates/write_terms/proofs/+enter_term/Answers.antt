@@ -10,7 +10,7 @@ use Rattle.read_terms.proofs.Located.{typed_in, type_in_lem}
 use Rattle.image_written.specs.TypeParts.{parts_first}
 use Rattle.image_written.specs.Table.{entered, types_in, types_in_all}
 use Rattle.image_written.proofs.Fronts.{tree_at, trees}
-use Rattle.write_types.specs.Entries.{types_of}
+use Rattle.write_types.specs.Entries.{entries_of}
 use Rattle.write_terms.proofs.Located.{known, read, next_child, child_lower, next_same, walked_child, walked_all}
 use Rattle.write_terms.proofs.+enter_term.Goals as goal
 use Rattle.write_terms.proofs.+enter_term.Goals.{in-Some, in_default}
@@ -28,8 +28,8 @@ class_of-requires t c = (read c.requires.2 c.requires.4 c.term_kind.ensures c.te
 pub field-requires : goal.field-requires
 field-requires t c = (read c.requires.2 c.requires.4 c.term_kind.ensures c.term_fields-fields.ensures c.known-known.ensures).inside c.loop-i.i (search rules)
 
-pub enter_term-requires : goal.enter_term-requires
-enter_term-requires t c =
+pub enter_term-m-requires : goal.enter_term-m-requires
+enter_term-m-requires t c =
     let here = read c.requires.2 c.requires.4 c.term_kind.ensures c.term_fields-fields.ensures c.known-known.ensures in
     let i = c.loop-i in
     let l : i.i < c.known-known.result.count = search rules in
@@ -42,24 +42,24 @@ enter_term-requires t c =
 
 pub loop-i-preserved : goal.loop-i-preserved
 loop-i-preserved t c =
-    let here = types_of c.args.image.now c.args.table.now in
+    let here = entries_of c.args.image.now c.args.n c.args.order.now in
     let i = c.loop-i in
     let l : i.i < c.known-known.result.count = search rules in
     let class = c.class_of.ensures in
     let number = c.field.ensures in
     elim c.match-child_of.branch [
       | in-Some w ↦
-          let r = w.enter_term.ensures in
-          rw w.table-is (
+          let r = w.enter_term-m.ensures in
+          rw (w.places-is, w.order-is, w.m-is) (
             r.0,
             λ e h R.
                 let n = R.count in
                 let x = next_child c.requires.2 h i.i (omega arith) (R.class i.i l class) (R.number i.i l number) w.in-Some.ensures.0 in
-                r.1 ∙ ap (λ j. entered (types_of c.args.image.now i.table) (types_in (tree_at (records_of c.args.image.now) j))) w.in-Some.ensures.1
-                ∙ walked_child c.args.image.now e i.i _ here (types_of c.args.image.now i.table) x (i.invariant.1 e h R),
+                r.1 ∙ ap (λ j. entered (entries_of c.args.image.now i.m i.order) (types_in (tree_at (records_of c.args.image.now) j))) w.in-Some.ensures.1
+                ∙ walked_child c.args.image.now e i.i _ here (entries_of c.args.image.now i.m i.order) x (i.invariant.1 e h R),
           )
       | in_default w ↦
-          rw w.table-is (
+          rw (w.places-is, w.order-is, w.m-is) (
             i.invariant.0,
             λ e h R.
                 let n = R.count in
@@ -83,4 +83,4 @@ returns t c =
     let g : c.known-known.result.count ≤ l.i = search rules in
     let n = here.count in
     let s = c.own_type.ensures ∙ ap (λ fs. field_in fs 0) c.term_fields-fields.ensures ∙ type_in_lem c.requires.2 c.requires.4 in
-    (v.ensures.0, v.ensures.1 ∙ ap (λ j. entered (types_of c.args.image.now l.table) (parts_first (type_of (records_of c.args.image.now) j))) s ∙ walked_all c.requires.2 c.requires.4 l.i (types_of c.args.image.now c.args.table.now) (types_of c.args.image.now l.table) (omega arith) (l.invariant.1 c.args.e.0 c.requires.4 here))
+    (v.ensures.0, v.ensures.1 ∙ ap (λ j. entered (entries_of c.args.image.now l.m l.order) (parts_first (type_of (records_of c.args.image.now) j))) s ∙ walked_all c.requires.2 c.requires.4 l.i (entries_of c.args.image.now c.args.n c.args.order.now) (entries_of c.args.image.now l.m l.order) (omega arith) (l.invariant.1 c.args.e.0 c.requires.4 here))

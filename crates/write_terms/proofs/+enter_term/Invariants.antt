@@ -6,7 +6,7 @@ use Rattle.read_terms.specs.Lent.{IsTerm}
 use Rattle.write_fields.proofs.Standing.{RecordRead}
 use Rattle.image_written.specs.Table.{entered, types_in_all}
 use Rattle.image_written.proofs.Fronts.{trees, sorts_at, numbers_of, kids}
-use Rattle.write_types.specs.Entries.{TableOf, types_of}
+use Rattle.write_types.specs.Entries.{Entries, entries_of}
 use Rattle.write_terms.proofs.+enter_term.Given as goal
 
 abbrev pub decreases-enter_term : goal.decreases-enter_term
@@ -15,6 +15,6 @@ decreases-enter_term l = l.e.0
 -- The loop keeps the fields, and not the term's number: what it claims holds of every term that they are the fields of.
 abbrev pub invariant-loop-i : goal.invariant-loop-i
 invariant-loop-i l =
-    TableOf l.image l.table
+    Entries l.image l.m l.places l.order
     × ((e : ℕ) → IsTerm l.image e → RecordRead l.fields l.known.code l.known.count (sorts_at (records_of l.image) e) (numbers_of (records_of l.image) e)
-    → types_of l.image l.table ≡ entered (types_of l.image l.initial.table) (types_in_all (trees (records_of l.image) (kids (records_of l.image) e l.i))))
+    → entries_of l.image l.m l.order ≡ entered (entries_of l.image l.n l.initial.order) (types_in_all (trees (records_of l.image) (kids (records_of l.image) e l.i))))

@@ -15,7 +15,7 @@ returns-then-mark_of-gt-DEEPEST c =
     let d = get_or c.args.depths.now l.i 0 in
     let z = c.mark_of.ensures in
     let deep = lt-leb d depth_limit (omega (arith, c.if-mark_of-gt-DEEPEST.true)) in
-    sym (l.invariant ∙ from_here _ _ _ _ l.i (omega arith) deep ∙ ap (λ o. refused_at Refusal.TooDeep o) (sym c.offset_of.ensures))
+    sym (l.invariant ∙ from_here _ _ _ _ l.i (omega arith) deep ∙ ap (λ o. refused_at Refusal.TooDeep o) (sym c.term_offset.ensures))
 
 pub loop-i-preserved : goal.loop-i-preserved
 loop-i-preserved c =

@@ -10,7 +10,7 @@ use Rattle.check_shape.proofs.order.first_unordered.Goals as goal
 pub returns-then-at_fault : goal.returns-then-at_fault
 returns-then-at_fault c =
     let l = c.loop-d in
-    sym (l.invariant ∙ from_here _ _ _ _ l.d (omega arith) (ap not (sym c.at_fault.ensures ∙ c.if-at_fault.true)) ∙ ap (λ o. refused_at Refusal.DomainOrder o) (sym c.offset_of.ensures))
+    sym (l.invariant ∙ from_here _ _ _ _ l.d (omega arith) (ap not (sym c.at_fault.ensures ∙ c.if-at_fault.true)) ∙ ap (λ o. refused_at Refusal.DomainOrder o) (sym c.domain_offset.ensures))
 
 pub loop-d-preserved : goal.loop-d-preserved
 loop-d-preserved c =

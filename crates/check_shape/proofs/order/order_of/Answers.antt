@@ -14,14 +14,14 @@ use Rattle.check_shape.proofs.order.order_of.Goals as goal
 pub fields_at-fields-requires : goal.fields_at-fields-requires
 fields_at-fields-requires c =
     let l = c.loop-d in
-    rw c.offset_of.ensures (c.requires.stands l.d (omega arith)).whole
+    rw c.domain_offset.ensures (c.requires.stands l.d (omega arith)).whole
 
 pub mask_of-requires : goal.mask_of-requires
 mask_of-requires c =
     let l = c.loop-d in
     let D = c.requires.stands l.d (omega arith) in
     let m = D.mask in
-    rw (c.fields_at-fields.ensures, c.offset_of.ensures) (omega (arith, bytes_length c.args.image.now (get_or c.args.doms.now l.d 0) D.whole))
+    rw (c.fields_at-fields.ensures, c.domain_offset.ensures) (omega (arith, bytes_length c.args.image.now (get_or c.args.doms.now l.d 0) D.whole))
 
 pub loop-d-preserved : goal.loop-d-preserved
 loop-d-preserved c =
@@ -31,7 +31,7 @@ loop-d-preserved c =
     let o = get_or ds l.d 0 in
     let D = c.requires.stands l.d (omega arith) in
     let m = D.mask in
-    let at = ap (fields_at b) c.offset_of.ensures in
+    let at = ap (fields_at b) c.domain_offset.ensures in
     let mask = c.mask_of.ensures ∙ ap (λ fs. field_in fs 0) (c.fields_at-fields.ensures ∙ at) ∙ field_is b o (length_at b o) 0 (omega arith) in
     let row = c.row_of.ensures ∙ ap (bits domain_limit) mask in
     rows_more (records_of b) b ds c.requires l.o l.d (omega arith) l.invariant _ row

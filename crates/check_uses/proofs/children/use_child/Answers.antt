@@ -10,4 +10,4 @@ unfolding highest
 returns c =
     let a = c.args in
     let m = c.mark_of-mark.ensures in
-    (c.max.ensures ∙ ap (max a.h) (c.from.ensures ∙ ap height_in m), c.set_mark.ensures ∙ ap (set a.marks.now a.e.0) (c.used_mark.ensures ∙ ap used_mark m))
+    (c.higher.ensures ∙ ap (max a.h) (c.from.ensures ∙ ap height_in m), c.set_mark.ensures ∙ ap (set a.marks.now a.e.0) (c.used_mark.ensures ∙ ap used_mark m))

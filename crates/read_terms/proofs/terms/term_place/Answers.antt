@@ -6,10 +6,10 @@ use Rattle.read_terms.proofs.terms.term_place.Goals as goal
 
 pub returns : goal.returns
 returns c =
-    let e = c.offset_of.ensures ∙ place_is c.requires.0 c.requires.1 in
+    let e = c.term_offset.ensures ∙ place_is c.requires.0 c.requires.1 in
     let i = inside c.requires.0 c.requires.1 in
     let l = long_enough_lem c.requires.0 c.requires.1 in
     (e, omega arith)
 
-pub offset_of-requires : goal.offset_of-requires
-offset_of-requires c = in_table c.requires.0 c.requires.1
+pub term_offset-requires : goal.term_offset-requires
+term_offset-requires c = in_table c.requires.0 c.requires.1

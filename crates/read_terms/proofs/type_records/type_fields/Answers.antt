@@ -5,10 +5,10 @@ use Rattle.read_terms.proofs.TypeRecords.{type_in_table, type_place_is, type_who
 use Rattle.read_terms.proofs.type_records.type_fields.Goals as goal
 
 pub fields_at-requires : goal.fields_at-requires
-fields_at-requires c = rw (c.offset_of.ensures ∙ type_place_is c.requires.0 c.requires.1) (type_whole c.requires.0 c.requires.1)
+fields_at-requires c = rw (c.type_offset.ensures ∙ type_place_is c.requires.0 c.requires.1) (type_whole c.requires.0 c.requires.1)
 
 pub returns : goal.returns
-returns c = c.fields_at.ensures ∙ ap (fields_at c.args.image.now) (c.offset_of.ensures ∙ type_place_is c.requires.0 c.requires.1)
+returns c = c.fields_at.ensures ∙ ap (fields_at c.args.image.now) (c.type_offset.ensures ∙ type_place_is c.requires.0 c.requires.1)
 
-pub offset_of-requires : goal.offset_of-requires
-offset_of-requires c = type_in_table c.requires.0 c.requires.1
+pub type_offset-requires : goal.type_offset-requires
+type_offset-requires c = type_in_table c.requires.0 c.requires.1

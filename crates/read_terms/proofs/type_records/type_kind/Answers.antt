@@ -8,10 +8,10 @@ use Rattle.read_terms.proofs.type_records.type_kind.Goals as goal
 pub kind_at-requires : goal.kind_at-requires
 kind_at-requires c =
     let w = type_whole c.requires.0 c.requires.1 in
-    rw (c.offset_of.ensures ∙ type_place_is c.requires.0 c.requires.1) (omega (arith, w.0, w.1))
+    rw (c.type_offset.ensures ∙ type_place_is c.requires.0 c.requires.1) (omega (arith, w.0, w.1))
 
 pub returns : goal.returns
-returns c = c.kind_at.ensures ∙ ap (number_at c.args.image.now) (c.offset_of.ensures ∙ type_place_is c.requires.0 c.requires.1)
+returns c = c.kind_at.ensures ∙ ap (number_at c.args.image.now) (c.type_offset.ensures ∙ type_place_is c.requires.0 c.requires.1)
 
-pub offset_of-requires : goal.offset_of-requires
-offset_of-requires c = type_in_table c.requires.0 c.requires.1
+pub type_offset-requires : goal.type_offset-requires
+type_offset-requires c = type_in_table c.requires.0 c.requires.1
