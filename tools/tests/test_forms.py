@@ -173,9 +173,13 @@ def tables_of_any_number(root):
     faults = []
     for path in sorted(pathlib.Path(root).glob("crates/*/src/**/*.rt")):
         text = without_comments(path.read_text(encoding="utf-8"))
-        for match in re.finditer(r"\bpub fn (\w+)<[^>]*?\b(\w+): Numbered\b[^>]*>\(", text):
-            parameters = text[match.end():closing(text, match.end() - 1, "()") - 1]
-            if re.search(rf": {match[2]}\b", parameters) and re.search(r": &(mut )?\[", parameters):
+        for match in re.finditer(r"\bpub (?:\([^)]*\) )?(?:const )?fn (\w+)(?:<([^>]*)>)?\(", text):
+            end = closing(text, match.end() - 1, "()")
+            parameters = text[match.end():end - 1]
+            bounds = (match[2] or "") + " " + text[end:text.index("{", end)]
+            names = re.findall(r"\b(\w+): [^,>]*\bNumbered\b", bounds)
+            numbered = "impl Numbered" in parameters or any(re.search(rf": {name}\b", parameters) for name in names)
+            if numbered and re.search(r": &('\w+ )?(mut )?\[", parameters):
                 faults.append(f"{path.relative_to(root).parts[1]}/{path.name}: {match[1]}: a table by a number of any section")
     return faults
 
@@ -203,7 +207,8 @@ GIVEN_UP = {
     leaves_judged_in_a_parent: ("check_typing/src/pass.rt", "fn f() { for j in 0..k { let e = child_of(j); check_leaf(e); } }", 2),
     walks_without_the_reader: ("check_layout/src/lib.rt", "fn scan_with(image: &[u8]) { let mut at = 0; }", 4),
     bare_numbers: ("vm_words/src/lib.rt", "fn f(term: u16, n: usize) -> u64 { code[n] }", 2),
-    tables_of_any_number: ("read_records/src/numbers.rt", "pub fn f<N: Numbered>(offsets: &[u16], n: N) -> usize { g(offsets, n) }", 1),
+    tables_of_any_number: ("read_records/src/numbers.rt", "pub fn f<N: Numbered>(offsets: &[u16], n: N) -> usize { g(offsets, n) } "
+                           "pub fn h<'a, N>(t: &'a mut [u16], n: N) where N: Copy + Numbered { } pub fn k(t: &[u16], n: impl Numbered) { }", 3),
     writers_of_the_report: ("vm_results/src/reports.rt", "fn f(r: &mut [u8]) { put_leaf(r); } fn g() { put_leaves(r); }", 2),
 }
 
