@@ -180,7 +180,7 @@ try "the shared library" shared
 try "the command bukzarn: built" cargo install --quiet --path cli --root target
 BUKZARN_LIBRARY=$out/library
 # What keeps the house: imports, edits, lengths, parameters, names of numbers; document 01's forms; names in the documents.
-house='test_house|test_design_places|test_comments|test_forms|test_documents|test_figures|test_gate_order'
+house='test_house|test_design_places|test_comments|test_forms|test_registers|test_documents|test_figures|test_gate_order'
 # Some files have tests that some Python on this machine may be able to run and the usual one not.
 apart='test_python|test_decoder|test_bench|test_bench_page|test_cross'
 modules=$(cd tools/tests && ls test_*.py | sed 's/\.py$//' | grep -Evx "$apart|$house")

@@ -1,7 +1,6 @@
 """What keeps the house: nothing is imported and not used, every edit changes something that counts, functions are short and take
 few parameters, numbers have names, the gate runs in one locale, and tools/test.sh runs all of it. Each check takes a root;
 the second half of this file shows that each can fail."""
-import collections
 import os
 import re
 import shutil
@@ -78,15 +77,6 @@ NUMBERS_IN_PLACE = {
 }
 
 
-# The machine's loop keeps its registers in the processor's as long as every function that hands them on is compiled into it. A
-# function that is called in one place always is; one that is called in more places only if it is small. These are called in more,
-# and were so when a step was measured (docs/changes/0062-look-back.md): small ones, those of the loop's start, and two of the
-# entries of a match, which keep the registers of the other turns out of memory as they are.
-CALLED_IN_PLACES = """vm_actions: go store; vm_dispatch: alone;
-vm_registers: called completed given halt halt_with lacking new_piece same stuck;
-vm_loop: run_turns start_regs; vm_matches: begin_operand entries_from"""
-
-
 def listed(text, separator):
     """The functions of a list: crate, colon, names."""
     found = set()
@@ -98,19 +88,6 @@ def listed(text, separator):
 
 def long_functions(root):
     return {(f.crate, f.name): f.lines for f in test_forms.functions(root) if f.lines > LONGEST}
-
-
-def called_in_places(root):
-    """Functions of the machine that answer its registers and are called in more than one place."""
-    texts = {path: test_forms.without_comments(path.read_text(encoding="utf-8")) for path in sorted(root.glob("crates/vm_*/src/**/*.rt"))}
-    calls = collections.Counter(name for text in texts.values() for name in re.findall(r"(?<!fn )\b(\w+)\(", text))
-    found = set()
-    for path, text in texts.items():
-        for match in re.finditer(r"\bfn (\w+)(?:<[^>]*>)?\(", text):
-            end = test_forms.closing(text, match.end() - 1, "()")
-            if re.match(r"\s*-> (?:Regs|Start)\b", text[end:]) and calls[match[1]] > 1:
-                found.add((path.relative_to(root).parts[1], match[1]))
-    return found
 
 
 def many_parameters(root):
@@ -191,9 +168,6 @@ class House(unittest.TestCase):
 
     def test_parameters(self):
         self.shrinks(many_parameters(common.ROOT), allowed_parameters())
-
-    def test_registers(self):
-        self.assertEqual(called_in_places(common.ROOT), listed(CALLED_IN_PLACES, ";"))
 
     def test_depths(self):
         self.assertEqual(too_deep(common.ROOT), set())
@@ -336,13 +310,6 @@ returns c = (cited c, c.g.ensures)
     def test_parameters(self):
         given = ", ".join(f"x{i}: u8" for i in range(MOST_PARAMETERS + 1))
         self.assertEqual(many_parameters(self.source(f"fn f({given}) {{}}\n")), {("a", "f"): MOST_PARAMETERS + 1})
-
-    def test_registers(self):
-        loop = "fn f(r: Regs) -> Regs { match a { A => g(r, true), B => g(r, false) } }\n"
-        once = "fn f(r: Regs) -> Regs { match a { A | B => g(r, c) } }\n"
-        text = "fn g(r: Regs, b: bool) -> Regs { r }\n"
-        self.assertEqual(called_in_places(common.tree(self, {"crates/vm_a/src/lib.rt": text + loop})), {("vm_a", "g")})
-        self.assertEqual(called_in_places(common.tree(self, {"crates/vm_a/src/lib.rt": text + once})), set())
 
     def test_depths(self):
         nested = "if a { while b { match c { 0 => { x } _ => { if d { y } } } } }"
