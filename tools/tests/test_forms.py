@@ -173,7 +173,7 @@ def tables_of_any_number(root):
     faults = []
     for path in sorted(pathlib.Path(root).glob("crates/*/src/**/*.rt")):
         text = without_comments(path.read_text(encoding="utf-8"))
-        for match in re.finditer(r"\bpub (?:\([^)]*\) )?(?:const )?fn (\w+)(?:<([^>]*)>)?\(", text):
+        for match in re.finditer(r"\bpub (?:const )?fn (\w+)(?:<([^>]*)>)?\(", text):
             end = closing(text, match.end() - 1, "()")
             parameters = text[match.end():end - 1]
             bounds = (match[2] or "") + " " + text[end:text.index("{", end)]

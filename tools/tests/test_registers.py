@@ -10,8 +10,8 @@ import test_house
 
 # The machine's loop keeps its registers out of memory as long as every function that hands them on is compiled into it. A
 # function that is called in one place always is; one that is called in more places only if it is small. These are called in more,
-# and were so when a step was measured (docs/changes/0062-look-back.md): small ones, those of the loop's start, and two of the
-# entries of a match, which keep the registers of the other turns out of memory as they are.
+# and were when a step was measured (docs/changes/0062-look-back.md): small ones; those that begin the loop; and two for the entries
+# of a match, which are handed copies, so that those of the loop stay where they are.
 CALLED_IN_PLACES = """vm_actions: go store; vm_dispatch: alone;
 vm_registers: called completed given halt halt_with lacking new_piece same stuck;
 vm_loop: run_turns start_regs; vm_matches: begin_operand entries_from"""
